@@ -1,0 +1,22 @@
+//! The words that every crate of the transmit path shares: limits, tickets, stamps, verdicts and fates.
+//!
+//! It stands on `std` and on `thiserror` for one message. Its contract: a ticket's tag is a number that no
+//! other ticket has, and the verdict of a frame follows from its length alone.
+#![tactic(auto)]
+
+mod fate;
+mod items;
+mod judged;
+mod limits;
+mod memory;
+mod ticket;
+
+pub use fate::{Away, Fate};
+pub use items::Items;
+pub use judged::{Judged, verdict};
+pub use limits::{
+    ALL_MAX, CHAIN_MAX, CLUSTER_BYTES, DRAIN_BATCH, FILE_MAX, FILES_MAX, FRAME_MIN, FRAMES_MAX,
+    MAX_BATCH, MAX_FRAME, PART, RING_MAX, RING_MIN, TX_BUDGET, UPDATE_AFTER,
+};
+pub use memory::NoMemory;
+pub use ticket::{Stamp, Ticket, tag};
