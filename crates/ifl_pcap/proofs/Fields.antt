@@ -59,7 +59,7 @@ pub spelled-number_in : (bytes : List ℕ) → 4 ≤ length bytes → IsBytes by
 unfolding spelled number_in
 spelled-number_in bytes long fits =
     le_bytes_4 (take 4 bytes) (number_in bytes) (omega (arith, length-take 4 bytes)) (IsBytes-take 4 bytes fits)
-      (omega (arith, get_or-take 4 bytes 0 0 (omega arith), get_or-take 4 bytes 1 0 (omega arith), get_or-take 4 bytes 2 0 (omega arith), get_or-take 4 bytes 3 0 (omega arith)))
+    (omega (arith, get_or-take 4 bytes 0 0 (omega arith), get_or-take 4 bytes 1 0 (omega arith), get_or-take 4 bytes 2 0 (omega arith), get_or-take 4 bytes 3 0 (omega arith)))
 
 pub number_in-spelled : (n : ℕ) (rest : List ℕ) → n < 2 ^ 32 → number_in (spelled n ++ rest) ≡ n
 unfolding spelled number_in

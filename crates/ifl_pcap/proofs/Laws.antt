@@ -53,8 +53,17 @@ append_assoc-five a b c d e f = simp append_assoc
 pub length-record_of : (f : Frame) → length (record_of f) ≡ 16 + length f.bytes
 length-record_of f =
     let sec = spelled f.stamp.sec in let usec = spelled f.stamp.usec in let len = spelled (length f.bytes) in let orig = spelled f.stamp.orig in
-    omega (arith, length-append sec (usec ++ (len ++ (orig ++ f.bytes))), length-append usec (len ++ (orig ++ f.bytes)), length-append len (orig ++ f.bytes), length-append orig f.bytes,
-      length-spelled f.stamp.sec, length-spelled f.stamp.usec, length-spelled (length f.bytes), length-spelled f.stamp.orig)
+    omega (
+      arith,
+      length-append sec (usec ++ (len ++ (orig ++ f.bytes))),
+      length-append usec (len ++ (orig ++ f.bytes)),
+      length-append len (orig ++ f.bytes),
+      length-append orig f.bytes,
+      length-spelled f.stamp.sec,
+      length-spelled f.stamp.usec,
+      length-spelled (length f.bytes),
+      length-spelled f.stamp.orig,
+    )
 
 pub frame_at-record_of : (f : Frame) (rest : List ℕ) → Fits f → frame_at (record_of f ++ rest) ≡ Ok (f, rest)
 unfolding frame_at

@@ -39,7 +39,10 @@ fn put_frame(out: &mut Vec<u8>, f: &Frame) -> Result<(), NoMemory>
 
 /// The bytes that the file of these frames will have.
 fn room_for(frames: &[Frame]) -> usize {
-    frames.iter().fold(HEADER.len(), |room, f| room.saturating_add(record_len(f) as usize))
+    frames.iter().fold(
+        HEADER.len(),
+        |room, f| room.saturating_add(record_len(f) as usize),
+    )
 }
 
 /// The one file that is written for a capture. Each frame has at most 262,144 bytes.

@@ -1,0 +1,59 @@
+-- A turn of a loop that puts lines, and the length of a written capture.
+use Rattle.std.proofs.Common.{◌≡◌, Bool, true, false, cond, ℕ, zero, suc, ◌+◌, ◌*◌, ◌<◌, ◌≤◌, List, [], ◌∷◌, ◌++◌, length, get_or, take, refl, sym, ap, ◌∙◌, arith}
+use Rattle.std.specs.Prelude.{sum_by, filter}
+use Rattle.std.specs.List.{flat_map, enumerate_from, AllByRecursion}
+use Rattle.std.proofs.lemmas.Grind.{flat_map-append}
+use Rattle.std.proofs.lemmas.List.{take_more, append-nil, length-append, length-drop}
+use Rattle.std.proofs.lemmas.List.FromFn.{length-enumerate_from, get_or-enumerate_from}
+use Rattle.std.proofs.lemmas.List.Concat.{flat_map-cons}
+use Rattle.std.proofs.lemmas.List.Sums.{sum_by-cons}
+use Rattle.ifl_pcap.specs.declared.frame.Frame.{Frame}
+use Rattle.ifl_pcap.specs.File.{record_of, written, written_header, IsFile, Fits}
+use Rattle.ifl_pcap.proofs.Laws.{length-record_of}
+use Rattle.ifl_engine.specs.Steps.{IsSmall}
+
+one : {X A : Type 0} (g : X → List A) (x : X) → flat_map g (x ∷ []) ≡ g x
+one g x = flat_map-cons g x [] ∙ append-nil (g x)
+
+take_all : {X : Type 0} (xs : List X) (i : ℕ) → length xs ≤ i → take i xs ≡ xs
+take_all [] zero le = refl
+take_all [] (suc i) le = refl
+take_all (x ∷ xs) zero le = absurd (omega arith)
+take_all (x ∷ xs) (suc i) le = ap (λ (ys : _). x ∷ ys) (take_all xs i (omega arith))
+
+-- one more element's part
+pub next_part : {X A : Type 0} (g : X → List A) (xs : List X) (i : ℕ) (x : X) (out new : List A) → i < length xs → get_or xs i x ≡ x → out ≡ flat_map g (take i xs) → new ≡ out ++ g x → new ≡ flat_map g (take (i + 1) xs)
+next_part g xs i x out new lt is inv added =
+    added ∙ ap (λ (o : _). o ++ g x) inv ∙ sym (ap (flat_map g) (take_more xs i x lt ∙ ap (λ (y : _). take i xs ++ y ∷ []) is) ∙ flat_map-append g (take i xs) (x ∷ []) ∙ ap (λ (r : _). flat_map g (take i xs) ++ r) (one g x))
+
+abbrev both : ℕ → Frame → ℕ × Frame
+both n f = (n, f)
+
+pair : (a b : ℕ) (x y : Frame) → a ≡ b → x ≡ y → both a x ≡ both b y
+pair a b x y p q = rw (p, q) refl
+
+pub numbered : {A : Type 0} (g : ℕ × Frame → List A) (fs : List Frame) (i : ℕ) (f : Frame) (out new : List A) → i < length fs → f ≡ get_or fs i f → out ≡ flat_map g (take i (enumerate_from 0 fs)) → new ≡ out ++ g (i, f) → new ≡ flat_map g (take (i + 1) (enumerate_from 0 fs))
+numbered g fs i f out new lt is inv added =
+    let long : i < length (enumerate_from 0 fs) = omega (arith, length-enumerate_from 0 fs) in
+    let at : get_or (enumerate_from 0 fs) i (i, f) ≡ (i, f) = get_or-enumerate_from 0 fs i (i, f) lt ∙ pair (0 + i) i (get_or fs i f) f (omega arith) (sym is) in
+    next_part g (enumerate_from 0 fs) i (i, f) out new long at inv added
+
+length-records : (fs : List Frame) → length (flat_map record_of fs) ≡ 16 * length fs + sum_by (λ (f : Frame). length f.bytes) fs
+length-records [] = refl
+length-records (f ∷ fs) =
+    let whole = ap length (flat_map-cons record_of f fs) in
+    omega (arith, whole, length-append (record_of f) (flat_map record_of fs), length-record_of f, length-records fs, sum_by-cons (λ (g : Frame). length g.bytes) f fs)
+
+pub length-written : (fs : List Frame) → length (written fs) ≡ 24 + 16 * length fs + sum_by (λ (f : Frame). length f.bytes) fs
+unfolding written_header
+length-written fs = omega (arith, length-append written_header (flat_map record_of fs), length-records fs)
+
+pub is_small : (bytes : List ℕ) (fs : List Frame) → length bytes ≤ 67108864 → IsFile bytes fs → IsSmall fs
+is_small bytes fs le file = record { fit = file.fit; few = omega (arith, length-records fs, ap length file.records, length-drop 24 bytes) }
+
+pub fits_kept : (p : Frame → Bool) (fs : List Frame) → AllByRecursion Fits fs → AllByRecursion Fits (filter p fs)
+fits_kept p [] h = tt
+fits_kept p (f ∷ fs) h = elim (p f) as (λ b. AllByRecursion Fits (cond b (f ∷ filter p fs) (filter p fs))) [ true ↦ (h.0, fits_kept p fs h.1) | false ↦ fits_kept p fs h.1 ]
+
+pub whole : {X A : Type 0} (g : X → List A) (xs : List X) (i : ℕ) → length xs ≤ i → flat_map g (take i xs) ≡ flat_map g xs
+whole g xs i le = ap (flat_map g) (take_all xs i le)

@@ -1,0 +1,35 @@
+-- A lawful order record: which frames its lines name, and in which order.
+use Rattle.std.specs.Prelude.{◌≡◌, ◌<◌, ◌⊎◌, List, ◌++◌, map, Some, All, AllPairs}
+use Rattle.std.specs.List.Sorted.{IsPermutation}
+use Rattle.ifl_base.specs.declared.fate.Away.{Away}
+use Rattle.ifl_base.specs.declared.fate.Away.TheVariants as away
+use Rattle.ifl_base.specs.declared.judged.Judged.{Judged}
+use Rattle.ifl_base.specs.declared.judged.Judged.TheVariants as judged
+use Rattle.ifl_pcap.specs.declared.frame.Frame.{Frame}
+use Rattle.ifl_engine.specs.declared.report.OrderLine.{OrderLine}
+use Rattle.ifl_engine.specs.declared.report.AwayLine.{AwayLine}
+use Rattle.ifl_engine.specs.Records.{all_tickets, verdict_at}
+
+-- of two lines of one sender, the earlier has the lower record
+abbrev pub IsInFileOrder : OrderLine → OrderLine → Type 0
+IsInFileOrder a b = a.ticket.sender ≡ b.ticket.sender → a.ticket.index < b.ticket.index
+
+abbrev pub IsBefore : AwayLine → AwayLine → Type 0
+IsBefore a b = (a.ticket.sender < b.ticket.sender) ⊎ ((a.ticket.sender ≡ b.ticket.sender) × (a.ticket.index < b.ticket.index))
+
+-- the verdict on a frame that was turned away so
+abbrev pub verdict_for : Away → Judged
+verdict_for away.Runt = judged.Runt
+verdict_for away.Oversize = judged.Oversize
+
+pub record IsLawful (captures : List (List Frame)) (order : List OrderLine) (turned : List AwayLine) : Type 0 where
+  -- every record stands in exactly one line of the two lists, and no line names another
+  pub each_once : IsPermutation (all_tickets captures) (map (λ l. l.ticket) order ++ map (λ l. l.ticket) turned)
+  -- each sender's accepted frames stand in the order of its file
+  pub in_file_order : AllPairs IsInFileOrder order
+  -- the away lines stand in the order of sender and record
+  pub away_in_order : AllPairs IsBefore turned
+  -- accepted frames are fit
+  pub fit : All (λ l. verdict_at captures l.ticket ≡ Some judged.Fit) order
+  -- the others are what their line says
+  pub turned_away : All (λ l. verdict_at captures l.ticket ≡ Some (verdict_for l.away)) turned

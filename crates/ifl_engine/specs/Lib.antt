@@ -1,0 +1,10 @@
+pub mod Words
+pub mod Read
+pub mod Records
+pub mod Lawful
+pub mod Report
+pub mod Texts
+pub mod Wanted
+pub mod Answer
+pub mod PlainList
+pub mod Steps

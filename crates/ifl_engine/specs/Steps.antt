@@ -1,0 +1,59 @@
+-- What the parts of a run do, each on its own.
+use Rattle.std.specs.Prelude.{◌≡◌, ◌≢◌, Some, ◌≤◌, ◌*◌, ◌⊎◌, ℕ, List, [], ◌∷◌, ◌++◌, length, Result, Ok, Err}
+use Rattle.std.specs.List.{AllByRecursion}
+use Rattle.ifl_outside.specs.Files.{Files, held, SameBut}
+use Rattle.ifl_outside.specs.Told.{BothTold}
+use Rattle.ifl_engine.specs.declared.report.Report.{Report}
+use Rattle.ifl_outside.specs.Causes.{Rose}
+use Rattle.ifl_outside.specs.declared.fault.HostError.{HostError}
+use Rattle.ifl_outside.specs.declared.fault.HostError.TheVariants as host
+use Rattle.ifl_pcap.specs.declared.frame.Frame.{Frame}
+use Rattle.ifl_pcap.specs.declared.frame.Capture.{Capture}
+use Rattle.ifl_pcap.specs.File.{Fits}
+use Rattle.ifl_engine.specs.declared.stop.Stop.{Stop}
+use Rattle.ifl_engine.specs.declared.stop.Stop.TheVariants as stop
+use Rattle.ifl_engine.specs.Words.{Named}
+use Rattle.ifl_engine.specs.Wanted.{status_of, line_of}
+use Rattle.ifl_engine.specs.Answer.{Seen, IsWritten}
+
+-- what a capture of a file within the limit has
+pub record IsSmall (frames : List Frame) : Type 0 where
+  pub fit : AllByRecursion Fits frames
+  pub few : 16 * length frames ≤ 67108864
+
+-- what was read, or why not
+abbrev pub IsRead : Result Capture Stop → Result (List (List Frame)) Stop → Type 0
+IsRead (Ok c) read = read ≡ Ok (c.frames ∷ [])
+IsRead (Err stop.ReadFailed) read = Unit {0}
+IsRead (Err stop.Memory) read = Unit {0}
+IsRead (Err stop.Absent) read = read ≡ Err stop.Absent
+IsRead (Err stop.TooLong) read = read ≡ Err stop.TooLong
+IsRead (Err stop.Capture) read = read ≡ Err stop.Capture
+IsRead (Err e) read = ⊥
+
+-- the stop for a call of the host that did not succeed
+abbrev pub stop_by : HostError → Stop → Stop
+stop_by host.Failed failed = failed
+stop_by host.Memory failed = stop.Memory
+
+-- a stop that a call of the host gave
+abbrev pub IsHostStop : Stop → ℕ → ℕ → Type 0
+IsHostStop stop.Memory before after = Unit {0}
+IsHostStop stop.WireFailed before after = Rose before after
+IsHostStop stop.OrderFailed before after = Rose before after
+IsHostStop stop.PrintFailed before after = Rose before after
+IsHostStop e before after = ⊥
+
+-- the fault line was printed, and the answer is the status of the stop
+pub record IsTold (names : Named) (why : Stop) (before after : Seen) (answer : ℕ) : Type 0 where
+  pub status : (answer ≡ status_of why) ⊎ (answer ≡ 6)
+  pub later : before.faults ≤ after.faults
+  pub files : after.files ≡ before.files
+  pub line : (answer ≡ 6) ⊎ (Rose before.faults after.faults ⊎ BothTold before.printed after.printed (λ was now. now ≡ was ++ line_of names why))
+
+-- what a stop of writing left: the earlier writes stand whole, no later one was made, and no other file has changed
+abbrev pub IsLeft : Named → Report → Stop → Files → Files → Type 0
+IsLeft names r stop.WireFailed old new = SameBut names.wire old new
+IsLeft names r stop.OrderFailed old new = (names.wire ≢ names.order → held new names.wire ≡ Some r.wire) × ((q : List ℕ) → q ≢ names.wire → q ≢ names.order → held new q ≡ held old q)
+IsLeft names r stop.PrintFailed old new = IsWritten names r old new
+IsLeft names r e old new = (q : List ℕ) → q ≢ names.wire → q ≢ names.order → held new q ≡ held old q

@@ -1,0 +1,42 @@
+-- The order text and the counter text. 10 is the line feed.
+use Rattle.std.specs.Prelude.{ℕ, List, ◌++◌, length, codes, decimal}
+use Rattle.std.specs.List.{flat_map}
+use Rattle.ifl_base.specs.declared.fate.Fate.{Fate}
+use Rattle.ifl_base.specs.declared.fate.Fate.TheVariants as fate
+use Rattle.ifl_base.specs.declared.fate.Away.{Away}
+use Rattle.ifl_base.specs.declared.fate.Away.TheVariants as away
+use Rattle.ifl_engine.specs.declared.report.OrderLine.{OrderLine}
+use Rattle.ifl_engine.specs.declared.report.AwayLine.{AwayLine}
+use Rattle.ifl_engine.specs.declared.report.Plain.{Plain}
+
+abbrev pub fate_name : Fate → List ℕ
+fate_name fate.Wire = codes "wire"
+
+abbrev pub away_name : Away → List ℕ
+away_name away.Runt = codes "runt"
+away_name away.Oversize = codes "oversize"
+
+-- a sender, a record and a word, with single spaces between
+unfoldable pub text_line : ℕ → ℕ → List ℕ → List ℕ
+text_line s k text = decimal s ++ (codes " " ++ (decimal k ++ (codes " " ++ (text ++ codes "\n"))))
+
+-- a name, a space and a number
+unfoldable pub count_line : List ℕ → ℕ → List ℕ
+count_line name n = name ++ (codes " " ++ (decimal n ++ codes "\n"))
+
+abbrev pub order_line : OrderLine → List ℕ
+order_line l = text_line l.ticket.sender l.ticket.index (fate_name l.fate)
+
+abbrev pub away_line : AwayLine → List ℕ
+away_line l = text_line l.ticket.sender l.ticket.index (away_name l.away)
+
+abbrev pub order_text_of : List OrderLine → List AwayLine → List ℕ
+order_text_of order turned =
+    ((count_line (codes "accepted") (length order) ++ flat_map order_line order) ++ count_line (codes "away") (length turned)) ++ flat_map away_line turned
+
+abbrev pub counter_text_of : Plain → List ℕ
+counter_text_of p =
+    count_line (codes "frames") p.frames ++ count_line (codes "wire") p.wire ++ count_line (codes "wire_bytes") p.wire_bytes
+    ++ count_line (codes "runt") p.runt ++ count_line (codes "oversize") p.oversize
+    ++ count_line (codes "no_buffers") p.no_buffers ++ count_line (codes "no_clusters") p.no_clusters
+    ++ count_line (codes "too_many_segments") p.too_many_segments ++ count_line (codes "reset") p.reset ++ count_line (codes "flush") p.flush

@@ -1,0 +1,95 @@
+-- What a run is to do, or the first thing that stops it: one line for each refusal, in the order of refusals.
+use Rattle.std.specs.Prelude.{ℕ, List, [], ◌∷◌, ◌++◌, length, Option, Some, None, Result, Ok, Err, nat_lt, if◌then◌else◌, codes}
+use Rattle.ifl_pcap.specs.declared.frame.Frame.{Frame}
+use Rattle.ifl_pcap.specs.declared.fault.CaptureFault.{CaptureFault}
+use Rattle.ifl_pcap.specs.Reading.{capture_of}
+use Rattle.ifl_engine.specs.declared.words.WordFault.{WordFault}
+use Rattle.ifl_engine.specs.declared.words.WordFault.TheVariants as fault
+use Rattle.ifl_engine.specs.declared.stop.Stop.{Stop}
+use Rattle.ifl_engine.specs.declared.stop.Stop.TheVariants as stop
+use Rattle.ifl_engine.specs.Words.{Named, asked}
+
+-- what the files hold: the number of the read, and the name that is read
+abbrev pub Source : Type 0
+Source = ℕ → List ℕ → Option (List ℕ)
+
+infixl 10 ◌>>=◌
+abbrev pub ◌>>=◌ : {A B : Type 0} → Result A Stop → (A → Result B Stop) → Result B Stop
+(Ok x) >>= f = f x
+(Err e) >>= f = Err e
+
+abbrev pub in_words : {A : Type 0} → Result A WordFault → Result A Stop
+in_words (Ok x) = Ok x
+in_words (Err e) = Err (stop.Words e)
+
+abbrev pub in_capture : {A : Type 0} → Result A CaptureFault → Result A Stop
+in_capture (Ok x) = Ok x
+in_capture (Err e) = Err stop.Capture
+
+-- a file that is not longer than the limit
+abbrev pub file_at : ℕ → Option (List ℕ) → Result (List ℕ) Stop
+file_at limit None = Err stop.Absent
+file_at limit (Some bytes) = if nat_lt limit (length bytes) then Err stop.TooLong else Ok bytes
+
+-- the work of a run: where it writes, and the captures of its senders
+pub record Work : Type 0 where
+  pub names : Named
+  pub captures : List (List Frame)
+
+unfoldable pub read_of : Named → Source → Result (List (List Frame)) Stop
+read_of names source = do
+  bytes ← file_at 67108864 (source 0 names.file)
+  frames ← in_capture (capture_of bytes)
+  Ok (frames ∷ [])
+
+abbrev pub work_of : Named → Source → Result Work Stop
+work_of names source = do
+  captures ← read_of names source
+  Ok (record { names = names; captures = captures })
+
+abbrev pub wanted : List (List ℕ) → Source → Result Work Stop
+wanted words source = do
+  names ← in_words (asked words)
+  work_of names source
+
+abbrev pub status_of : Stop → ℕ
+status_of (stop.Words fault.NoCommand) = 1
+status_of (stop.Words fault.UnknownCommand) = 1
+status_of (stop.Words fault.Refused) = 1
+status_of (stop.Words fault.Names) = 1
+status_of (stop.Words fault.Memory) = 6
+status_of stop.Absent = 4
+status_of stop.TooLong = 7
+status_of stop.Capture = 3
+status_of stop.ReadFailed = 5
+status_of stop.WireFailed = 5
+status_of stop.OrderFailed = 5
+status_of stop.PrintFailed = 5
+status_of stop.Memory = 6
+
+abbrev pub word_fault_name : WordFault → List ℕ
+word_fault_name fault.NoCommand = codes "no command"
+word_fault_name fault.UnknownCommand = codes "unknown command"
+word_fault_name fault.Refused = codes "refused"
+word_fault_name fault.Names = codes "names"
+word_fault_name fault.Memory = []
+
+-- the fault line: what stopped the run, with the name as given
+abbrev pub line_of : Named → Stop → List ℕ
+line_of names (stop.Words f) = codes "words: " ++ (word_fault_name f ++ codes "\n")
+line_of names stop.Absent = codes "absent: " ++ (names.file ++ codes "\n")
+line_of names stop.TooLong = codes "limit: " ++ (names.file ++ codes "\n")
+line_of names stop.Capture = codes "capture: " ++ (names.file ++ codes "\n")
+line_of names stop.ReadFailed = codes "host: read " ++ (names.file ++ codes "\n")
+line_of names stop.WireFailed = codes "host: write " ++ (names.wire ++ codes "\n")
+line_of names stop.OrderFailed = codes "host: write " ++ (names.order ++ codes "\n")
+line_of names stop.PrintFailed = codes "host: print\n"
+line_of names stop.Memory = codes "memory\n"
+
+-- the names, where the words have them
+abbrev pub names_or_none : Result Named WordFault → Named
+names_or_none (Ok names) = names
+names_or_none (Err e) = record { wire = []; order = []; file = [] }
+
+abbrev pub names_in : List (List ℕ) → Named
+names_in words = names_or_none (asked words)

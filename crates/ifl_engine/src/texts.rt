@@ -1,0 +1,104 @@
+ghost use Rattle.std.specs.Prelude.{◌≡◌, ◌++◌, codes, IfOk, OnOk};
+ghost use Rattle.std.specs.List.{flat_map};
+ghost use Rattle.std.specs.String.{string_bytes};
+ghost use Rattle.ifl_engine.specs.Texts.{text_line, count_line, order_line, away_line, order_text_of, counter_text_of};
+
+use crate::report::{AwayLine, OrderLine, Report};
+use ifl_base::{Away, Fate, NoMemory, Ticket};
+use std::alloc::Global;
+use std::fmt::Write;
+
+/// The bytes that a line of the order text takes, about.
+const LINE_ROOM: usize = 16;
+
+/// Appends a ticket and a word, with single spaces between.
+#[tactic(auto, unfolding(crate::specs::Texts::text_line))]
+fn put_line(out: &mut String, ticket: Ticket, text: &str) -> Result<(), NoMemory>
+    ensures { OnOk result (string_bytes out.new ≡ string_bytes out.old ++ text_line ticket.sender ticket.index text.now) }
+{
+    let sender = ticket.sender;
+    let index = ticket.index;
+    write!(out, "{sender} {index} {text}\n")?;
+    Ok(())
+}
+
+/// Appends a name and a number.
+#[tactic(auto, unfolding(crate::specs::Texts::count_line))]
+fn put_count(out: &mut String, name: &str, n: u64) -> Result<(), NoMemory>
+    ensures { OnOk result (string_bytes out.new ≡ string_bytes out.old ++ count_line name.now n) }
+{
+    write!(out, "{name} {n}\n")?;
+    Ok(())
+}
+
+fn put_order(out: &mut String, l: &OrderLine) -> Result<(), NoMemory>
+    ensures { OnOk result (string_bytes out.new ≡ string_bytes out.old ++ order_line l.now) }
+{
+    match l.fate {
+        Fate::Wire => put_line(out, l.ticket, "wire"),
+    }
+}
+
+fn put_away(out: &mut String, l: &AwayLine) -> Result<(), NoMemory>
+    ensures { OnOk result (string_bytes out.new ≡ string_bytes out.old ++ away_line l.now) }
+{
+    match l.away {
+        Away::Runt => put_line(out, l.ticket, "runt"),
+        Away::Oversize => put_line(out, l.ticket, "oversize"),
+    }
+}
+
+fn put_orders(out: &mut String, lines: &[OrderLine]) -> Result<(), NoMemory>
+    ensures { OnOk result (string_bytes out.new ≡ string_bytes out.old ++ flat_map order_line lines.now) }
+{
+    for l in lines {
+        put_order(out, l)?;
+    }
+    Ok(())
+}
+
+fn put_aways(out: &mut String, lines: &[AwayLine]) -> Result<(), NoMemory>
+    ensures { OnOk result (string_bytes out.new ≡ string_bytes out.old ++ flat_map away_line lines.now) }
+{
+    for l in lines {
+        put_away(out, l)?;
+    }
+    Ok(())
+}
+
+/// The order text of a report: the accepted frames with their fates, and then the others.
+pub fn order_text(alloc: Global, r: &Report) -> Result<Vec<u8>, NoMemory>
+    ensures { IfOk result (λ v. v.items ≡ order_text_of r.now.order r.now.away) }
+{
+    let order = r.order.as_slice();
+    let away = r.away.as_slice();
+    let room = order
+        .len()
+        .saturating_add(away.len())
+        .saturating_mul(LINE_ROOM);
+    let mut out = String::with_capacity(alloc, room)?;
+    put_count(&mut out, "accepted", order.len() as u64)?;
+    put_orders(&mut out, order)?;
+    put_count(&mut out, "away", away.len() as u64)?;
+    put_aways(&mut out, away)?;
+    Ok(out.into_bytes())
+}
+
+/// The counter text of a report: a line for each counter.
+pub fn counter_text(alloc: Global, r: &Report) -> Result<Vec<u8>, NoMemory>
+    ensures { IfOk result (λ v. v.items ≡ counter_text_of r.now.plain) }
+{
+    let plain = r.plain;
+    let mut out = String::new(alloc);
+    put_count(&mut out, "frames", plain.frames)?;
+    put_count(&mut out, "wire", plain.wire)?;
+    put_count(&mut out, "wire_bytes", plain.wire_bytes)?;
+    put_count(&mut out, "runt", plain.runt)?;
+    put_count(&mut out, "oversize", plain.oversize)?;
+    put_count(&mut out, "no_buffers", plain.no_buffers)?;
+    put_count(&mut out, "no_clusters", plain.no_clusters)?;
+    put_count(&mut out, "too_many_segments", plain.too_many_segments)?;
+    put_count(&mut out, "reset", plain.reset)?;
+    put_count(&mut out, "flush", plain.flush)?;
+    Ok(out.into_bytes())
+}
