@@ -1,1 +1,4 @@
+pub mod FlagAfter
+pub mod Space
 pub mod Verdict
+pub mod Word

@@ -1,7 +1,9 @@
-//! The words that every crate of the transmit path shares: limits, tickets, stamps, verdicts and fates.
+//! The words that every crate of the transmit path shares: limits, tickets, stamps, verdicts, fates, and the
+//! ring's word with its flag.
 //!
 //! It stands on `std` and on `thiserror` for one message. Its contract: a ticket's tag is a number that no
-//! other ticket has, and the verdict of a frame follows from its length alone.
+//! other ticket has, the verdict of a frame follows from its length alone, and the ring's word packs and
+//! counts its places modulo the ring's size, for every size from 4 to 65,536.
 #![tactic(auto)]
 
 mod fate;
@@ -9,7 +11,9 @@ mod items;
 mod judged;
 mod limits;
 mod memory;
+mod places;
 mod ticket;
+mod word;
 
 pub use fate::{Away, Fate};
 pub use items::Items;
@@ -19,4 +23,9 @@ pub use limits::{
     MAX_BATCH, MAX_FRAME, PART, RING_MAX, RING_MIN, TX_BUDGET, UPDATE_AFTER,
 };
 pub use memory::NoMemory;
+pub use places::{advance, flag_after, space};
 pub use ticket::{Stamp, Ticket, tag};
+pub use word::{Flag, RingWord};
+
+#[cfg(test)]
+mod tests;
