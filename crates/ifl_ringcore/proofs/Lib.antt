@@ -1,0 +1,15 @@
+pub mod Reservations
+pub mod Histories
+pub mod Keeping
+pub mod Residues
+pub mod Standing
+pub mod Deciding
+pub mod Making
+pub mod Cutting
+pub mod Numerals
+pub mod Wording
+pub mod Scanning
+pub mod Counting
+pub mod Replaying
+pub mod Queueing
+pub mod OneReading

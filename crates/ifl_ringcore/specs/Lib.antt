@@ -1,0 +1,17 @@
+pub mod State
+pub mod Conditions
+pub mod Effects
+pub mod History
+pub mod Invariant
+pub mod Events
+pub mod Table
+pub mod Counters
+pub mod Kept
+pub mod Residues
+pub mod Lines
+pub mod Schedule
+pub mod Reading
+pub mod Texts
+pub mod Trace
+pub mod Replayed
+pub mod Queue
