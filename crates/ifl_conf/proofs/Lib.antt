@@ -1,0 +1,10 @@
+pub mod Fronts
+pub mod FileLists
+pub mod Digits
+pub mod Unpacked
+pub mod SpelledWords
+pub mod PlainWords
+pub mod Utf8Texts
+pub mod ServedForms
+pub mod ServedSettings
+pub mod FileSpelling

@@ -1,0 +1,16 @@
+pub mod Keys
+pub mod KeyText
+pub mod Choices
+pub mod Parts
+pub mod Documents
+pub mod Kept
+pub mod Options
+pub mod Front
+pub mod FileWords
+pub mod Grammar
+pub mod Clashes
+pub mod Served
+pub mod Reading
+pub mod Spelling
+pub mod Commands
+pub mod GivenOption
