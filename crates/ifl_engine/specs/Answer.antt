@@ -3,14 +3,16 @@ use Rattle.std.specs.Prelude.{◌≡◌, ◌≢◌, ◌≤◌, ◌⊎◌, ℕ, L
 use Rattle.ifl_outside.specs.Files.{Files, held}
 use Rattle.ifl_outside.specs.Told.{BothTold}
 use Rattle.ifl_outside.specs.Causes.{Rose}
+use Rattle.ifl_pcap.specs.declared.frame.Frame.{Frame}
 use Rattle.ifl_engine.specs.declared.report.Report.{Report}
 use Rattle.ifl_engine.specs.declared.report.Finished.{Finished}
 use Rattle.ifl_engine.specs.declared.stop.Stop.{Stop}
 use Rattle.ifl_engine.specs.declared.words.WordFault.{WordFault}
-use Rattle.ifl_engine.specs.Words.{Named}
+use Rattle.ifl_engine.specs.Words.{Named, Asked}
 use Rattle.ifl_engine.specs.Report.{IsGood}
 use Rattle.ifl_engine.specs.Texts.{order_text_of, counter_text_of}
-use Rattle.ifl_engine.specs.Wanted.{Source, Work, status_of, line_of}
+use Rattle.ifl_engine.specs.Tracing.{IsReplay}
+use Rattle.ifl_engine.specs.Wanted.{Source, Work, sending, tracing, status_of, line_of}
 
 -- what is seen of a host at a moment
 pub record Seen : Type 0 where
@@ -26,24 +28,35 @@ abbrev pub ForFiles : Option Files → (Source → Type 0) → Type 0
 ForFiles None P = (source : Source) × P source
 ForFiles (Some files) P = P (λ read name. held files name)
 
--- where there is work to do, P of it; and there is some
-abbrev pub IfWork : Result Work Stop → (Work → Type 0) → Type 0
-IfWork (Ok work) P = P work
-IfWork (Err why) P = ⊥
+-- where frames are to be sent, P of their captures; and they are
+abbrev pub IfSending : Result Work Stop → (List (List Frame) → Type 0) → Type 0
+IfSending (Ok (sending names captures)) P = P captures
+IfSending (Ok (tracing schedule)) P = ⊥
+IfSending (Err why) P = ⊥
+
+-- a run that sends has a report at its end, one that replays a schedule has none, and nothing else ends well
+abbrev pub IsReported : Result Work Stop → Option Report → Type 0
+IsReported (Ok (sending names captures)) report = IsSome report
+IsReported (Ok (tracing schedule)) report = IsNone report
+IsReported (Err why) report = ⊥
+
+-- the words and the files call for this status
+abbrev pub CallsFor : Result Work Stop → ℕ → Type 0
+CallsFor (Ok (sending names captures)) status = status ≡ 0
+CallsFor (Ok (tracing schedule)) status = (text : List ℕ) × IsReplay schedule text status
+CallsFor (Err why) status = status ≡ status_of why
 
 -- the status that is called for, unless a call of the host failed or memory ran out
 abbrev pub IsStatus : Result Work Stop → ℕ → Type 0
-IsStatus (Ok work) status = (status ≡ 0) ⊎ ((status ≡ 5) ⊎ (status ≡ 6))
-IsStatus (Err why) status = (status ≡ status_of why) ⊎ ((status ≡ 5) ⊎ (status ≡ 6))
+IsStatus work status = CallsFor work status ⊎ ((status ≡ 5) ⊎ (status ≡ 6))
 
 -- the status that is called for, where no call of the host failed, unless memory ran out
 abbrev pub IsCalledFor : Result Work Stop → ℕ → Type 0
-IsCalledFor (Ok work) status = (status ≡ 0) ⊎ (status ≡ 6)
-IsCalledFor (Err why) status = (status ≡ status_of why) ⊎ (status ≡ 6)
+IsCalledFor work status = CallsFor work status ⊎ (status ≡ 6)
 
 -- words that are refused have status 1, and no others do
-abbrev pub IsByWords : Result Named WordFault → ℕ → Type 0
-IsByWords (Ok names) status = status ≢ 1
+abbrev pub IsByWords : Result Asked WordFault → ℕ → Type 0
+IsByWords (Ok command) status = status ≢ 1
 IsByWords (Err e) status = (status ≡ 1) ⊎ (status ≡ 6)
 
 -- the wire file and the order file hold exactly these bytes, and every other file is as before
@@ -61,10 +74,11 @@ pub record IsDone (names : Named) (r : Report) (before after : Seen) : Type 0 wh
   pub files : BothTold before.files after.files (IsWritten names r)
   pub printed : BothTold before.printed after.printed (λ was now. now ≡ was ++ counter_text_of r.plain)
 
--- the fault line that is called for
-abbrev pub Tells : Named → Result Work Stop → Option (List ℕ) → Option (List ℕ) → Type 0
-Tells names (Ok work) was now = Unit {0}
-Tells names (Err why) was now = BothTold was now (λ was now. now ≡ was ++ line_of names why)
+-- what is printed besides the counters: the fault line that is called for, or the replay of that status
+abbrev pub Tells : Named → Result Work Stop → ℕ → Option (List ℕ) → Option (List ℕ) → Type 0
+Tells names (Ok (sending _ captures)) status was now = Unit {0}
+Tells names (Ok (tracing schedule)) status was now = BothTold was now (λ was now. (text : List ℕ) × IsReplay schedule text status × (now ≡ was ++ text))
+Tells names (Err why) status was now = BothTold was now (λ was now. now ≡ was ++ line_of names why)
 
 -- the answer to what is wanted, under these names
 pub record IsAnswer (names : Named) (work : Result Work Stop) (before after : Seen) (result : Finished) : Type 0 where
@@ -72,9 +86,9 @@ pub record IsAnswer (names : Named) (work : Result Work Stop) (before after : Se
   pub status : IsStatus work result.status
   pub later : before.faults ≤ after.faults
   pub failed : result.status ≡ 5 → Rose before.faults after.faults
-  -- a report is good, wherever there is one, and there is one at status 0
-  pub good : IfSome result.report (λ r. IfWork work (λ w. IsGood w.captures r))
-  pub there : result.status ≡ 0 → IsSome result.report
+  -- a report is good, wherever there is one, and at status 0 there is one where frames were to be sent
+  pub good : IfSome result.report (λ r. IfSending work (λ captures. IsGood captures r))
+  pub there : result.status ≡ 0 → IsReported work result.report
   -- what stands in the files and what was printed
   pub done : result.status ≡ 0 → IfSome result.report (λ r. IsDone names r before after)
   -- what a stop of writing left
@@ -82,4 +96,4 @@ pub record IsAnswer (names : Named) (work : Result Work Stop) (before after : Se
   -- without a report no file was written
   pub untouched : IsNone result.report → after.files ≡ before.files
   -- a fault line is printed
-  pub told : result.status ≢ 5 → result.status ≢ 6 → Rose before.faults after.faults ⊎ Tells names work before.printed after.printed
+  pub told : result.status ≢ 5 → result.status ≢ 6 → Rose before.faults after.faults ⊎ Tells names work result.status before.printed after.printed

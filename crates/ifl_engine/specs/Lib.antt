@@ -4,6 +4,7 @@ pub mod Records
 pub mod Lawful
 pub mod Report
 pub mod Texts
+pub mod Tracing
 pub mod Wanted
 pub mod Answer
 pub mod PlainList

@@ -1,5 +1,5 @@
 -- What the parts of a run do, each on its own.
-use Rattle.std.specs.Prelude.{◌≡◌, ◌≢◌, Some, ◌≤◌, ◌*◌, ◌⊎◌, ℕ, List, [], ◌∷◌, ◌++◌, length, Result, Ok, Err}
+use Rattle.std.specs.Prelude.{◌≡◌, ◌≢◌, Some, ◌≤◌, ◌*◌, ◌⊎◌, ℕ, List, ◌++◌, length, Result, Ok, Err}
 use Rattle.std.specs.List.{AllByRecursion}
 use Rattle.ifl_outside.specs.Files.{Files, held, SameBut}
 use Rattle.ifl_outside.specs.Told.{BothTold}
@@ -8,7 +8,6 @@ use Rattle.ifl_outside.specs.Causes.{Rose}
 use Rattle.ifl_outside.specs.declared.fault.HostError.{HostError}
 use Rattle.ifl_outside.specs.declared.fault.HostError.TheVariants as host
 use Rattle.ifl_pcap.specs.declared.frame.Frame.{Frame}
-use Rattle.ifl_pcap.specs.declared.frame.Capture.{Capture}
 use Rattle.ifl_pcap.specs.File.{Fits}
 use Rattle.ifl_engine.specs.declared.stop.Stop.{Stop}
 use Rattle.ifl_engine.specs.declared.stop.Stop.TheVariants as stop
@@ -21,15 +20,15 @@ pub record IsSmall (frames : List Frame) : Type 0 where
   pub fit : AllByRecursion Fits frames
   pub few : 16 * length frames ≤ 67108864
 
--- what was read, or why not
-abbrev pub IsRead : Result Capture Stop → Result (List (List Frame)) Stop → Type 0
-IsRead (Ok c) read = read ≡ Ok (c.frames ∷ [])
-IsRead (Err stop.ReadFailed) read = Unit {0}
-IsRead (Err stop.Memory) read = Unit {0}
-IsRead (Err stop.Absent) read = read ≡ Err stop.Absent
-IsRead (Err stop.TooLong) read = read ≡ Err stop.TooLong
-IsRead (Err stop.Capture) read = read ≡ Err stop.Capture
-IsRead (Err e) read = ⊥
+-- what was read, seen by view, is what is to be read, or it stops for the same cause; the host and memory may fail at any time
+abbrev pub IsRead : {X Y : Type 0} → (X → Y) → Result X Stop → Result Y Stop → Type 0
+IsRead view (Ok x) read = read ≡ Ok (view x)
+IsRead view (Err stop.ReadFailed) read = Unit {0}
+IsRead view (Err stop.Memory) read = Unit {0}
+IsRead view (Err stop.Absent) read = read ≡ Err stop.Absent
+IsRead view (Err stop.TooLong) read = read ≡ Err stop.TooLong
+IsRead view (Err stop.Capture) read = read ≡ Err stop.Capture
+IsRead view (Err e) read = ⊥
 
 -- the stop for a call of the host that did not succeed
 abbrev pub stop_by : HostError → Stop → Stop

@@ -7,7 +7,7 @@ use Rattle.ifl_engine.specs.declared.words.WordFault.{WordFault}
 use Rattle.ifl_engine.specs.declared.words.WordFault.TheVariants as fault
 use Rattle.ifl_engine.specs.declared.stop.Stop.{Stop}
 use Rattle.ifl_engine.specs.declared.stop.Stop.TheVariants as stop
-use Rattle.ifl_engine.specs.Words.{Named, asked}
+use Rattle.ifl_engine.specs.Words.{Named, Asked, send, trace, asked}
 
 -- what the files hold: the number of the read, and the name that is read
 abbrev pub Source : Type 0
@@ -31,27 +31,49 @@ abbrev pub file_at : ℕ → Option (List ℕ) → Result (List ℕ) Stop
 file_at limit None = Err stop.Absent
 file_at limit (Some bytes) = if nat_lt limit (length bytes) then Err stop.TooLong else Ok bytes
 
--- the work of a run: where it writes, and the captures of its senders
-pub record Work : Type 0 where
-  pub names : Named
-  pub captures : List (List Frame)
+-- what a run is to do: to send these captures and write under these names, or to replay this schedule's file
+pub data Work : Type 0 where
+  sending : (names : Named) (captures : List (List Frame)) → Work
+  tracing : (schedule : List ℕ) → Work
 
-unfoldable pub read_of : Named → Source → Result (List (List Frame)) Stop
-read_of names source = do
-  bytes ← file_at 67108864 (source 0 names.file)
+-- the captures of a file's bytes
+abbrev pub captures_in : List ℕ → Result (List (List Frame)) Stop
+captures_in bytes = do
   frames ← in_capture (capture_of bytes)
   Ok (frames ∷ [])
 
-abbrev pub work_of : Named → Source → Result Work Stop
-work_of names source = do
+-- the captures that are read
+unfoldable pub read_of : Named → Source → Result (List (List Frame)) Stop
+read_of names source = do
+  bytes ← file_at 67108864 (source 0 names.file)
+  captures_in bytes
+
+-- the work of a command
+abbrev pub work_of : Asked → Source → Result Work Stop
+work_of (send names) source = do
   captures ← read_of names source
-  Ok (record { names = names; captures = captures })
+  Ok (sending names captures)
+work_of (trace file) source = do
+  bytes ← file_at 1048576 (source 0 file)
+  Ok (tracing bytes)
 
+-- what is to be done for words that ask for this
+abbrev pub wanted_by : Result Asked WordFault → Source → Result Work Stop
+wanted_by words source = do
+  command ← in_words words
+  work_of command source
+
+-- what the words and the files ask for
 abbrev pub wanted : List (List ℕ) → Source → Result Work Stop
-wanted words source = do
-  names ← in_words (asked words)
-  work_of names source
+wanted words source = wanted_by (asked words) source
 
+-- the words of `trace` alone: every other command is refused
+abbrev pub only_trace : Result Asked WordFault → Result Asked WordFault
+only_trace (Ok (send names)) = Err fault.Refused
+only_trace (Ok (trace file)) = Ok (trace file)
+only_trace (Err e) = Err e
+
+-- the status of each stop
 abbrev pub status_of : Stop → ℕ
 status_of (stop.Words fault.NoCommand) = 1
 status_of (stop.Words fault.UnknownCommand) = 1
@@ -86,9 +108,14 @@ line_of names stop.OrderFailed = codes "host: write " ++ (names.order ++ codes "
 line_of names stop.PrintFailed = codes "host: print\n"
 line_of names stop.Memory = codes "memory\n"
 
+-- the names that the fault lines of a command may tell
+abbrev pub names_asked : Asked → Named
+names_asked (send names) = names
+names_asked (trace file) = record { wire = []; order = []; file = file }
+
 -- the names, where the words have them
-abbrev pub names_or_none : Result Named WordFault → Named
-names_or_none (Ok names) = names
+abbrev pub names_or_none : Result Asked WordFault → Named
+names_or_none (Ok command) = names_asked command
 names_or_none (Err e) = record { wire = []; order = []; file = [] }
 
 abbrev pub names_in : List (List ℕ) → Named

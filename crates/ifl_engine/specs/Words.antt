@@ -1,4 +1,4 @@
--- The words of the command line: `send --wire W --order O FILE`, and nothing else.
+-- The words of the command line: `send --wire W --order O FILE` or `trace FILE`, and nothing else.
 use Rattle.std.specs.Prelude.{ℕ, List, [], ◌∷◌, length, Bool, false, ◌&&◌, ◌||◌, not, ◌==◌, Result, Ok, Err, if◌then◌else◌, slice_index_or, codes}
 use Rattle.std.specs.Str.{bytes_eq}
 use Rattle.ifl_engine.specs.declared.words.WordFault.{WordFault}
@@ -9,6 +9,11 @@ pub record Named : Type 0 where
   pub wire : List ℕ
   pub order : List ℕ
   pub file : List ℕ
+
+-- what the words ask for: to send a capture's frames, or to replay a schedule
+pub data Asked : Type 0 where
+  send : (names : Named) → Asked
+  trace : (file : List ℕ) → Asked
 
 abbrev pub word : List (List ℕ) → ℕ → List ℕ
 word words i = slice_index_or words i []
@@ -32,15 +37,22 @@ is_named_twice words = bytes_eq (word words 2) (word words 4) || (bytes_eq (word
 abbrev pub named : List (List ℕ) → Named
 named words = record { wire = word words 2; order = word words 4; file = word words 5 }
 
-unfoldable pub asked : List (List ℕ) → Result Named WordFault
+-- what the words behind `send` ask for
+abbrev pub asked_send : List (List ℕ) → Result Asked WordFault
+asked_send words =
+    if length words == 6 then
+    (if is_form words then (if is_named_twice words then Err Names else Ok (send (named words))) else Err Refused)
+    else Err Refused
+
+-- what the word behind `trace` asks for
+abbrev pub asked_trace : List (List ℕ) → Result Asked WordFault
+asked_trace words = if length words == 2 then (if is_name (word words 1) then Ok (trace (word words 1)) else Err Refused) else Err Refused
+
+-- what all words ask for, or their first fault
+unfoldable pub asked : List (List ℕ) → Result Asked WordFault
 asked words =
     if length words == 0 then Err NoCommand else
     (if is_command (word words 0) then
-    (if bytes_eq (word words 0) (codes "send") then
-    (if length words == 6 then
-    (if is_form words then
-    (if is_named_twice words then Err Names else Ok (named words))
-    else Err Refused)
-    else Err Refused)
-    else Err Refused)
+    (if bytes_eq (word words 0) (codes "send") then asked_send words else
+    (if bytes_eq (word words 0) (codes "trace") then asked_trace words else Err Refused))
     else Err UnknownCommand)

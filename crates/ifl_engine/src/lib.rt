@@ -1,13 +1,14 @@
 //! The engine: what the program does with its words, over any host and any gate.
 //!
-//! It stands on `ifl_outside` (files, standard output, gates) and `ifl_pcap` (captures). Its one contract is
-//! that of [`run`]: at status 0 the order file lists the accepted frames, each once, in the order of its
-//! capture, with one fate; the wire file is exactly the frames with fate `wire`, in that order; every other
-//! frame stands in one named counter; and every status has its cause.
+//! It stands on `ifl_outside` (files, standard output, gates), `ifl_pcap` (captures) and `ifl_ringcore` (replays
+//! of schedules). Its one contract is that of [`run`]: at status 0 of `send` the order file lists the accepted
+//! frames, each once, in the order of its capture, with one fate; the wire file is exactly the frames with fate
+//! `wire`, in that order; every other frame stands in one named counter; and every status has its cause.
 //!
 //! `specs/` reads in this order: `Words` (what was asked), `Records` (tickets), `Lawful` and `Report` (what a
-//! good report is), `Texts`, `Wanted` (what a run is to do, or the first thing that stops it), `Answer` (what
-//! it answers and does to its host). `PlainList` and `Steps` are for the functions below `run`.
+//! good report is), `Texts`, `Tracing` (what a replay prints), `Wanted` (what a run is to do, or the first thing
+//! that stops it), `Answer` (what it answers and does to its host). `PlainList` and `Steps` are for the functions
+//! below `run`.
 #![tactic(auto)]
 
 mod plain;
@@ -17,6 +18,7 @@ mod stop;
 mod telling;
 mod texts;
 mod top;
+mod tracing;
 mod words;
 mod writing;
 
@@ -24,6 +26,7 @@ pub use report::{AwayLine, Finished, OrderLine, Plain, Report};
 pub use stop::Stop;
 pub use texts::{counter_text, order_text};
 pub use top::run;
+pub use tracing::run_trace;
 pub use words::{Command, SendWords, WordFault, read_words};
 
 #[cfg(test)]

@@ -1,12 +1,12 @@
-ghost use Rattle.std.specs.Prelude.{◌≡◌, ◌≢◌, ◌∷◌, [], Ok, IfSome, IsSome, IsNone, map};
+ghost use Rattle.std.specs.Prelude.{◌≡◌, ◌≢◌, ◌∷◌, [], Ok, IfSome, IsNone, map};
 ghost use Rattle.std.specs.String.{string_bytes};
 ghost use Rattle.ifl_outside.specs.Causes.{Rose};
 ghost use Rattle.ifl_outside.specs.Told.{BothTold};
-ghost use Rattle.ifl_engine.specs.Words.{asked};
+ghost use Rattle.ifl_engine.specs.Words.{asked, send};
 ghost use Rattle.ifl_engine.specs.Read.{names_of};
 ghost use Rattle.ifl_engine.specs.Report.{IsGood};
-ghost use Rattle.ifl_engine.specs.Wanted.{wanted, work_of, names_in};
-ghost use Rattle.ifl_engine.specs.Answer.{ForFiles, IsAnswer, IsDone, IfWork, IsStatus, IsCalledFor, IsByWords, IsStanding, Tells, seen};
+ghost use Rattle.ifl_engine.specs.Wanted.{sending, wanted, work_of, names_in};
+ghost use Rattle.ifl_engine.specs.Answer.{ForFiles, IsAnswer, IsDone, IfSending, IsReported, IsStatus, IsCalledFor, IsByWords, IsStanding, Tells, seen};
 ghost use Rattle.ifl_engine.specs.Steps.{IsSmall};
 
 use crate::plain::report_of;
@@ -14,7 +14,8 @@ use crate::reading::gathered;
 use crate::report::Finished;
 use crate::stop::Stop;
 use crate::telling::{tell, tell_named};
-use crate::words::{SendWords, read_words, send_words};
+use crate::tracing::trace;
+use crate::words::{Command, SendWords, read_words};
 use crate::writing::put_out;
 use ifl_base::NoMemory;
 use ifl_outside::{Gate, Host};
@@ -28,7 +29,7 @@ fn work<H: Host>(alloc: Global, names: &SendWords, capture: Capture, host: &mut 
     requires small { IsSmall capture.frames }
     requires apart { string_bytes names.now.wire ≢ string_bytes names.now.order }
     ensures by_words { result.status ≢ 1 }
-    ensures answer { IsAnswer (names_of names.now) (Ok (record { names = names_of names.now; captures = capture.frames ∷ [] }))
+    ensures answer { IsAnswer (names_of names.now) (Ok (sending (names_of names.now) (capture.frames ∷ [])))
         (seen H.faults H.files H.printed host.old) (seen H.faults H.files H.printed host.new) result }
 {
     match report_of(alloc, capture) {
@@ -59,7 +60,7 @@ fn work<H: Host>(alloc: Global, names: &SendWords, capture: Capture, host: &mut 
 fn send<H: Host>(alloc: Global, names: &SendWords, host: &mut H) -> Finished
     requires { string_bytes names.now.wire ≢ string_bytes names.now.order }
     ensures by_words { result.status ≢ 1 }
-    ensures answer { ForFiles (H.files host.old) (λ source. IsAnswer (names_of names.now) (work_of (names_of names.now) source)
+    ensures answer { ForFiles (H.files host.old) (λ source. IsAnswer (names_of names.now) (work_of (send (names_of names.now)) source)
         (seen H.faults H.files H.printed host.old) (seen H.faults H.files H.printed host.new) result) }
 {
     match gathered(alloc, names, host) {
@@ -81,9 +82,13 @@ fn answer<H: Host>(alloc: Global, words: &[String], host: &mut H) -> Finished
         (seen H.faults H.files H.printed host.old) (seen H.faults H.files H.printed host.new) result) }
 {
     match read_words(alloc, words) {
-        Ok(command) => {
-            let names = send_words(command);
-            send(alloc, &names, host)
+        Ok(Command::Send(names)) => send(alloc, &names, host),
+        Ok(Command::Trace { file }) => {
+            let status = trace(alloc, file.as_str(), host);
+            Finished {
+                status,
+                report: None,
+            }
         }
         Err(fault) => {
             let status = tell(alloc, "", "", "", Stop::Words(fault), host);
@@ -121,8 +126,8 @@ pub fn run<R: Threads + Wait, H: Host, G: Gate>(
 
     // A report is good for the captures, wherever there is one.
     ensures good { IfSome result.report (λ r. ForFiles (H.files host.old) (λ source.
-        IfWork (wanted (map string_bytes words.now) source) (λ work. IsGood work.captures r))) }
-    ensures there { result.status ≡ 0 → IsSome result.report }
+        IfSending (wanted (map string_bytes words.now) source) (λ captures. IsGood captures r))) }
+    ensures there { result.status ≡ 0 → ForFiles (H.files host.old) (λ source. IsReported (wanted (map string_bytes words.now) source) result.report) }
 
     // At status 0 the files and the printed bytes are those of the report, and nothing else has changed.
     ensures done { result.status ≡ 0 → IfSome result.report (λ r. IsDone (names_in (map string_bytes words.now)) r
@@ -136,7 +141,7 @@ pub fn run<R: Threads + Wait, H: Host, G: Gate>(
 
     // Where the host has not failed, a refusal is told by its line.
     ensures told { ¬ Rose (H.faults host.old) (H.faults host.new) → result.status ≢ 6 →
-        ForFiles (H.files host.old) (λ source. Tells (names_in (map string_bytes words.now)) (wanted (map string_bytes words.now) source)
+        ForFiles (H.files host.old) (λ source. Tells (names_in (map string_bytes words.now)) (wanted (map string_bytes words.now) source) result.status
         (H.printed host.old) (H.printed host.new)) }
 {
     answer(alloc, words, host)

@@ -1,7 +1,7 @@
 ghost use Rattle.std.specs.Prelude.{◌≡◌, map};
 ghost use Rattle.std.specs.String.{string_bytes};
 ghost use Rattle.ifl_engine.specs.declared.words.WordFault.TheVariants.{Memory};
-ghost use Rattle.ifl_engine.specs.Words.{is_command, is_name, asked};
+ghost use Rattle.ifl_engine.specs.Words.{is_command, is_name, asked, asked_send, asked_trace};
 ghost use Rattle.ifl_engine.specs.Read.{GivesWords};
 
 use std::alloc::{AllocError, Global};
@@ -51,15 +51,8 @@ pub struct SendWords {
 pub enum Command {
     /// Send a capture's frames.
     Send(SendWords),
-}
-
-/// The names of the command.
-pub fn send_words(command: Command) -> SendWords
-    ensures { command ≡ Command.Send result }
-{
-    match command {
-        Command::Send(names) => names,
-    }
+    /// Replay the schedule in this file against the ring's machine.
+    Trace { file: String },
 }
 
 fn is_command(word: &str) -> bool
@@ -78,23 +71,10 @@ fn is_name(word: &str) -> bool
     }
 }
 
-/// Reads the words behind the program's name: `send --wire W --order O FILE`, in this order.
-///
-/// Each fault comes exactly where it is the first in the order of `WordFault`.
-#[tactic(auto, unfolding(crate::specs::Words::asked))]
-pub fn read_words(alloc: Global, words: &[String]) -> Result<Command, WordFault>
-    ensures { GivesWords result (asked (map string_bytes words.now)) }
+/// The names behind `send`: `--wire W --order O FILE`.
+fn read_send(alloc: Global, words: &[String]) -> Result<Command, WordFault>
+    ensures { GivesWords result (asked_send (map string_bytes words.now)) }
 {
-    if words.len() == 0 {
-        return Err(WordFault::NoCommand);
-    }
-    let command = words[0].as_str();
-    if !is_command(command) {
-        return Err(WordFault::UnknownCommand);
-    }
-    if command != "send" {
-        return Err(WordFault::Refused);
-    }
     if words.len() != 6 {
         return Err(WordFault::Refused);
     }
@@ -115,4 +95,42 @@ pub fn read_words(alloc: Global, words: &[String]) -> Result<Command, WordFault>
         order: String::from_str(alloc, order)?,
         file: String::from_str(alloc, file)?,
     }))
+}
+
+/// The name behind `trace`.
+fn read_trace(alloc: Global, words: &[String]) -> Result<Command, WordFault>
+    ensures { GivesWords result (asked_trace (map string_bytes words.now)) }
+{
+    if words.len() != 2 {
+        return Err(WordFault::Refused);
+    }
+    let file = words[1].as_str();
+    if !is_name(file) {
+        return Err(WordFault::Refused);
+    }
+    let file = String::from_str(alloc, file)?;
+    Ok(Command::Trace { file })
+}
+
+/// Reads the words behind the program's name: `send --wire W --order O FILE` or `trace FILE`, in this order.
+///
+/// Each fault comes exactly where it is the first in the order of `WordFault`.
+#[tactic(auto, unfolding(crate::specs::Words::asked))]
+pub fn read_words(alloc: Global, words: &[String]) -> Result<Command, WordFault>
+    ensures { GivesWords result (asked (map string_bytes words.now)) }
+{
+    if words.len() == 0 {
+        return Err(WordFault::NoCommand);
+    }
+    let command = words[0].as_str();
+    if !is_command(command) {
+        return Err(WordFault::UnknownCommand);
+    }
+    if command == "send" {
+        return read_send(alloc, words);
+    }
+    if command == "trace" {
+        return read_trace(alloc, words);
+    }
+    Err(WordFault::Refused)
 }

@@ -1,12 +1,12 @@
 use Rattle.ifl_engine.proofs.Lines.{is_small}
-use Rattle.ifl_engine.proofs.ReadLaws.{read_capture, read_refused}
+use Rattle.ifl_engine.proofs.ReadLaws.{captures_in-ok, captures_in-refused}
 use Rattle.ifl_engine.proofs.reading.parsed.Goals as goal
 
 pub returns-in-Ok-clause-read : goal.returns-in-Ok-clause-read
-returns-in-Ok-clause-read c = λ names source is. read_capture names source c.args.bytes.now c.in-Ok.capture.frames is c.requires c.in-Ok.ensures.exact
+returns-in-Ok-clause-read c = captures_in-ok c.args.bytes.now c.in-Ok.capture.frames c.in-Ok.ensures.exact
 
 pub returns-in-Ok-clause-small : goal.returns-in-Ok-clause-small
 returns-in-Ok-clause-small c = is_small c.args.bytes.now c.in-Ok.capture.frames c.requires c.in-Ok.ensures.found
 
 pub returns-in-Err-Refused-clause-read : goal.returns-in-Err-Refused-clause-read
-returns-in-Err-Refused-clause-read c = λ names source is. let exact = rw c.in-Err-Refused.field-0-is at c.in-Err-Refused.ensures.exact in read_refused names source c.args.bytes.now is c.requires exact
+returns-in-Err-Refused-clause-read c = let exact = rw c.in-Err-Refused.field-0-is at c.in-Err-Refused.ensures.exact in captures_in-refused c.args.bytes.now exact

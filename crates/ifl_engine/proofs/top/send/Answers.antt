@@ -2,14 +2,15 @@ use Rattle.ifl_engine.specs.declared.stop.Stop.TheVariants.{ReadFailed}
 use Rattle.ifl_engine.specs.Read.{names_of}
 use Rattle.ifl_engine.specs.Wanted.{read_of}
 use Rattle.ifl_engine.specs.Answer.{seen}
-use Rattle.ifl_engine.proofs.ReadLaws.{for_each, from_files}
-use Rattle.ifl_engine.proofs.Answers.{read_stopped, same_stop, not_by_words}
+use Rattle.ifl_engine.proofs.ReadLaws.{for_each, from_files, frames_in}
+use Rattle.ifl_engine.proofs.Stopping.{send_stopped, same_stop}
+use Rattle.ifl_engine.proofs.Refusing.{not_by_words}
 use Rattle.ifl_engine.proofs.top.send.Goals as goal
 
 pub returns-in-Err-clause-answer : goal.returns-in-Err-clause-answer
 returns-in-Err-clause-answer g c =
     for_each (g.H.Host.files c.args.host.now) _ _
-    (λ source read. read_stopped (names_of c.args.names.now) c.in-Err.stop source
+    (λ source read. send_stopped (names_of c.args.names.now) c.in-Err.stop source
     (seen g.H.Host.faults g.H.Host.files g.H.Host.printed c.args.host.now)
     (seen g.H.Host.faults g.H.Host.files g.H.Host.printed c.gathered.new.host)
     (seen g.H.Host.faults g.H.Host.files g.H.Host.printed c.tell_named-status.new.host)
@@ -17,4 +18,4 @@ returns-in-Err-clause-answer g c =
     c.in-Err.ensures.read
 
 pub returns-in-Err-clause-by_words : goal.returns-in-Err-clause-by_words
-returns-in-Err-clause-by_words g c = from_files (g.H.Host.files c.args.host.now) _ _ (λ source read. not_by_words (names_of c.args.names.now) c.in-Err.stop (read_of (names_of c.args.names.now) source) _ _ c.tell_named-status.result read c.tell_named-status.ensures) c.in-Err.ensures.read
+returns-in-Err-clause-by_words g c = from_files (g.H.Host.files c.args.host.now) _ _ (λ source read. not_by_words frames_in (names_of c.args.names.now) c.in-Err.stop (read_of (names_of c.args.names.now) source) _ _ c.tell_named-status.result read c.tell_named-status.ensures) c.in-Err.ensures.read

@@ -1,0 +1,25 @@
+use Rattle.std.proofs.Common.{ap, map}
+use Rattle.std.specs.String.{string_bytes}
+use Rattle.ifl_engine.specs.declared.words.WordFault.TheVariants as fault
+use Rattle.ifl_engine.specs.Words.{asked}
+use Rattle.ifl_engine.specs.Wanted.{only_trace}
+use Rattle.ifl_engine.specs.Answer.{seen}
+use Rattle.ifl_engine.proofs.ReadLaws.{for_any}
+use Rattle.ifl_engine.proofs.Refusing.{refused_by_words, GivesWords-only_trace}
+use Rattle.ifl_engine.proofs.tracing.answer_trace.Goals as goal
+
+pub returns-in-Ok-Send-clause-answer : goal.returns-in-Ok-Send-clause-answer
+returns-in-Ok-Send-clause-answer g c =
+    for_any (g.H.Host.files c.args.host.now) _
+    (λ source. refused_by_words (only_trace (asked (map string_bytes c.args.words.now))) source fault.Refused
+    (seen g.H.Host.faults g.H.Host.files g.H.Host.printed c.args.host.now)
+    (seen g.H.Host.faults g.H.Host.files g.H.Host.printed c.tell.new.host)
+    c.tell.result (ap only_trace (rw c.in-Ok-Send.field-0-is at c.in-Ok-Send.ensures)) c.tell.ensures)
+
+pub returns-clause-answer : goal.returns-clause-answer
+returns-clause-answer g c =
+    for_any (g.H.Host.files c.args.host.now) _
+    (λ source. refused_by_words (only_trace (asked (map string_bytes c.args.words.now))) source c.in-Err.fault
+    (seen g.H.Host.faults g.H.Host.files g.H.Host.printed c.args.host.now)
+    (seen g.H.Host.faults g.H.Host.files g.H.Host.printed c.tell-in-Err.new.host)
+    c.tell-in-Err.result (GivesWords-only_trace c.in-Err.fault (asked (map string_bytes c.args.words.now)) c.in-Err.ensures) c.tell-in-Err.ensures)
