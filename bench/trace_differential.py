@@ -226,9 +226,8 @@ def spoiled(source, lines):
     lines = list(lines)
     lines[at] = source.choice(("", "look", lines[at] + " ", lines[at].replace(" ", "  ", 1), "Look 0", "look 00", "look -1", "reserve 0 4294967296", "takeover 0 65536"))
     end = "\n"
-    if source.random() < 0.3:
-        at, end = min(at, len(lines) - 1), ""
-        lines = lines[: at + 1]
+    if lines[at] and source.random() < 0.3:
+        lines, end = lines[: at + 1], ""
     return "\n".join(lines) + end, 9, f"trace: line {at + 1}: Line\n"
 
 
