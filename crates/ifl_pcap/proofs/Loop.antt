@@ -1,60 +1,53 @@
 -- A record at a time is all of them.
-use Rattle.std.proofs.Common.{◌≡◌, ℕ, zero, suc, ◌<◌, ◌≤◌, List, [], ◌∷◌, ◌++◌, length, Result, Ok, Err, refl, sym, ap, ◌∙◌, append_assoc, arith}
+use Rattle.std.proofs.Common.{◌≡◌, ℕ, zero, suc, ◌+◌, ◌<◌, ◌≤◌, List, [], ◌∷◌, ◌++◌, length, Result, Ok, Err, sym, ap, ◌∙◌, arith}
 use Rattle.std.proofs.lemmas.List.{append-nil}
+use Rattle.ifl_pcap.specs.declared.form.Form.{Form}
 use Rattle.ifl_pcap.specs.declared.frame.Frame.{Frame}
 use Rattle.ifl_pcap.specs.declared.fault.CaptureFault.{CaptureFault}
-use Rattle.ifl_pcap.specs.declared.fault.CaptureFault.TheVariants.{Refused, Memory}
-use Rattle.ifl_pcap.specs.Reading.{◌>>=◌, Fails, frame_at, frames_at}
-use Rattle.ifl_pcap.proofs.Fields.{IsBytes}
-use Rattle.ifl_pcap.proofs.Laws.{Takes-frame_at, length-frame_at, frames_at-suc}
+use Rattle.ifl_pcap.specs.declared.fault.CaptureFault.TheVariants.{Bad, Memory}
+use Rattle.ifl_pcap.specs.Reading.{Fails, frame_at, frames_at}
+use Rattle.ifl_pcap.proofs.Numbers.{IsBytes}
+use Rattle.ifl_pcap.proofs.Records.{IsReadFrom-frame_at, length-IsRecord}
+use Rattle.ifl_pcap.proofs.Files.{with_front, unchanged, regroup, frames_at-nil, frames_at-Ok, frames_at-bad, one_less}
 
-abbrev pub with_front : List Frame → Result (List Frame) CaptureFault → Result (List Frame) CaptureFault
-with_front front read = read >>= λ fs. Ok (front ++ fs)
-
-unchanged : (read : Result (List Frame) CaptureFault) → with_front [] read ≡ read
-unchanged (Ok fs) = refl
-unchanged (Err e) = refl
-
-regroup : (front : List Frame) (f : Frame) (read : Result (List Frame) CaptureFault) → with_front front (read >>= λ fs. Ok (f ∷ fs)) ≡ with_front (front ++ f ∷ []) read
-regroup front f (Ok fs) = ap (λ (x : List Frame). Ok x) (sym (append_assoc front (f ∷ []) fs))
-regroup front f (Err e) = refl
-
--- what was read, and what is still read, is all of it
-pub record IsSoFar (front : List Frame) (bytes : List ℕ) (total : Result (List Frame) CaptureFault) : Type 0 where
+-- what was read, and what is still read from this place on, is all of it
+pub record IsSoFar (form : Form) (at : ℕ) (front : List Frame) (bytes : List ℕ) (total : Result (List Frame) CaptureFault) : Type 0 where
   pub fuel : ℕ
   pub enough : length bytes ≤ fuel
   pub fits : IsBytes bytes
-  pub all : with_front front (frames_at fuel bytes) ≡ total
+  pub all : with_front front (frames_at form fuel at bytes) ≡ total
 
-pub starts : (bytes : List ℕ) → IsBytes bytes → IsSoFar [] bytes (frames_at (length bytes) bytes)
-starts bytes fits = record { fuel = length bytes; enough = omega arith; fits = fits; all = unchanged (frames_at (length bytes) bytes) }
+pub starts : (form : Form) (at : ℕ) (bytes : List ℕ) → IsBytes bytes → IsSoFar form at [] bytes (frames_at form (length bytes) at bytes)
+starts form at bytes fits = record { fuel = length bytes; enough = omega arith; fits = fits; all = unchanged (frames_at form (length bytes) at bytes) }
 
-one_less : (n fuel : ℕ) → 0 < n → n ≤ fuel → (k : ℕ) × (fuel ≡ suc k)
-one_less n zero some le = absurd (omega arith)
-one_less n (suc k) some le = (k, refl)
+pub length-frame_at : (form : Form) (at : ℕ) (f : Frame) (bytes after : List ℕ) → IsBytes bytes → frame_at form at bytes ≡ Ok (f, after) → length bytes ≡ 16 + length f.bytes + length after
+length-frame_at form at f bytes after fits e = length-IsRecord form f bytes after (IsReadFrom-frame_at form at bytes (f, after) fits e).is
 
-pub next : (front : List Frame) (f : Frame) (bytes after : List ℕ) (total : Result (List Frame) CaptureFault) → 0 < length bytes → frame_at bytes ≡ Ok (f, after) → IsSoFar front bytes total → IsSoFar (front ++ f ∷ []) after total
-next front f bytes after total some one so_far =
+pub next : (form : Form) (at place : ℕ) (front : List Frame) (f : Frame) (bytes after : List ℕ) (total : Result (List Frame) CaptureFault) → 0 < length bytes → place ≡ at + (16 + length f.bytes) → frame_at form at bytes ≡ Ok (f, after) → IsSoFar form at front bytes total → IsSoFar form place (front ++ f ∷ []) after total
+next form at place front f bytes after total some moved one so_far =
     let k = one_less (length bytes) so_far.fuel some so_far.enough in
-    let t = Takes-frame_at bytes (f, after) so_far.fits one in
-    let shorter = length-frame_at bytes (f, after) so_far.fits one in
-    let step : frames_at (suc k.0) bytes ≡ (frames_at k.0 after >>= λ others. Ok (f ∷ others)) = frames_at-suc k.0 bytes some ∙ ap (λ (r : Result (Frame × List ℕ) CaptureFault). r >>= λ first. frames_at k.0 first.1 >>= λ others. Ok (first.0 ∷ others)) one in
-    let was : with_front front (frames_at (suc k.0) bytes) ≡ total = ap (λ (n : ℕ). with_front front (frames_at n bytes)) (sym k.1) ∙ so_far.all in
-    record { fuel = k.0; enough = omega arith; fits = t.0.rest_fits; all = sym (regroup front f (frames_at k.0 after)) ∙ ap (with_front front) (sym step) ∙ was }
+    let read = IsReadFrom-frame_at form at bytes (f, after) so_far.fits one in
+    let shorter = length-frame_at form at f bytes after so_far.fits one in
+    let step : frames_at form so_far.fuel at bytes ≡ with_front (f ∷ []) (frames_at form k.0 place after) =
+    ap (λ (n : ℕ). frames_at form n at bytes) k.1 ∙ frames_at-Ok form k.0 at bytes f after some one ∙ ap (λ (p : ℕ). with_front (f ∷ []) (frames_at form k.0 p after)) (sym moved) in
+    record {
+      fuel = k.0;
+      enough = omega (arith, k.1, so_far.enough, shorter);
+      fits = read.rest_fits;
+      all = sym (regroup front (f ∷ []) (frames_at form k.0 place after)) ∙ ap (with_front front) (sym step) ∙ so_far.all;
+    }
 
-pub ends : (e : CaptureFault) (front : List Frame) (bytes : List ℕ) (total : Result (List Frame) CaptureFault) → 0 < length bytes → Fails e (frame_at bytes) → IsSoFar front bytes total → Fails e total
-ends Memory front bytes total some h so_far = tt
-ends Refused front bytes total some h so_far =
+pub ends : (form : Form) (at : ℕ) (e : CaptureFault) (front : List Frame) (bytes : List ℕ) (total : Result (List Frame) CaptureFault) → 0 < length bytes → Fails e (frame_at form at bytes) → IsSoFar form at front bytes total → Fails e total
+ends form at Memory front bytes total some h so_far = tt
+ends form at (Bad place why) front bytes total some h so_far =
     let k = one_less (length bytes) so_far.fuel some so_far.enough in
-    let step : frames_at (suc k.0) bytes ≡ Err Refused = frames_at-suc k.0 bytes some ∙ ap (λ (r : Result (Frame × List ℕ) CaptureFault). r >>= λ first. frames_at k.0 first.1 >>= λ others. Ok (first.0 ∷ others)) h in
-    let was : with_front front (frames_at (suc k.0) bytes) ≡ total = ap (λ (n : ℕ). with_front front (frames_at n bytes)) (sym k.1) ∙ so_far.all in
-    sym was ∙ ap (with_front front) step
+    let step : frames_at form so_far.fuel at bytes ≡ Err (Bad place why) = ap (λ (n : ℕ). frames_at form n at bytes) k.1 ∙ frames_at-bad form k.0 at bytes (Bad place why) some h in
+    sym so_far.all ∙ ap (with_front front) step
 
-none_left : (fuel : ℕ) (bytes : List ℕ) → length bytes ≡ 0 → frames_at fuel bytes ≡ Ok []
-unfolding frames_at
-none_left fuel [] h = refl
-none_left fuel (b ∷ bytes) h = absurd (omega arith)
+none_left : (form : Form) (fuel at : ℕ) (bytes : List ℕ) → length bytes ≡ 0 → frames_at form fuel at bytes ≡ Ok []
+none_left form fuel at [] h = frames_at-nil form fuel at
+none_left form fuel at (b ∷ bytes) h = absurd (omega arith)
 
-pub is_done : (front : List Frame) (bytes : List ℕ) (total : Result (List Frame) CaptureFault) → length bytes ≡ 0 → IsSoFar front bytes total → total ≡ Ok front
-is_done front bytes total none so_far =
-    sym so_far.all ∙ ap (with_front front) (none_left so_far.fuel bytes none) ∙ ap (λ (fs : List Frame). Ok fs) (append-nil front)
+pub is_done : (form : Form) (at : ℕ) (front : List Frame) (bytes : List ℕ) (total : Result (List Frame) CaptureFault) → length bytes ≡ 0 → IsSoFar form at front bytes total → total ≡ Ok front
+is_done form at front bytes total none so_far =
+    sym so_far.all ∙ ap (with_front front) (none_left form so_far.fuel at bytes none) ∙ ap (λ (fs : List Frame). Ok fs) (append-nil front)

@@ -5,15 +5,16 @@ use Rattle.std.proofs.lemmas.Grind.{flat_map-append}
 use Rattle.std.proofs.lemmas.List.{take_more, append-nil}
 use Rattle.std.proofs.lemmas.List.Concat.{flat_map-cons}
 use Rattle.ifl_pcap.specs.declared.frame.Frame.{Frame}
-use Rattle.ifl_pcap.specs.Numbers.{spelled}
+use Rattle.ifl_pcap.specs.declared.form.Order.TheVariants.{Little}
+use Rattle.ifl_pcap.specs.Numbers.{spelled_in}
 use Rattle.ifl_pcap.specs.File.{record_of}
 
 append_assoc-four : (o a b c d e : List ℕ) → ((((o ++ a) ++ b) ++ c) ++ d) ++ e ≡ o ++ (a ++ (b ++ (c ++ (d ++ e))))
 append_assoc-four o a b c d e = simp append_assoc
 
 -- the parts of a record, put one after another
-pub append-record_of : (o : List ℕ) (f : Frame) → ((((o ++ spelled f.stamp.sec) ++ spelled f.stamp.usec) ++ spelled (length f.bytes)) ++ spelled f.stamp.orig) ++ f.bytes ≡ o ++ record_of f
-append-record_of o f = append_assoc-four o (spelled f.stamp.sec) (spelled f.stamp.usec) (spelled (length f.bytes)) (spelled f.stamp.orig) f.bytes
+pub append-record_of : (o : List ℕ) (f : Frame) → ((((o ++ spelled_in Little f.stamp.sec) ++ spelled_in Little f.stamp.usec) ++ spelled_in Little (length f.bytes)) ++ spelled_in Little f.stamp.orig) ++ f.bytes ≡ o ++ record_of f
+append-record_of o f = append_assoc-four o (spelled_in Little f.stamp.sec) (spelled_in Little f.stamp.usec) (spelled_in Little (length f.bytes)) (spelled_in Little f.stamp.orig) f.bytes
 
 flat_map-one : {X : Type 0} (g : X → List ℕ) (x : X) → flat_map g (x ∷ []) ≡ g x
 flat_map-one g x = flat_map-cons g x [] ∙ append-nil (g x)

@@ -1,3 +1,4 @@
 pub mod Numbers
 pub mod File
+pub mod Faults
 pub mod Reading

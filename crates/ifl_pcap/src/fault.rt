@@ -5,12 +5,35 @@ use ifl_base::NoMemory;
 use std::alloc::{AllocError, AllocFailed};
 use thiserror::Error;
 
+/// What is wrong at the first place at which bytes are no capture's file. It prints as its name.
+#[derive(Clone, Copy, Debug, PartialEq, Eq, Error)]
+pub enum CaptureWhy {
+    /// There are fewer than the 24 bytes of a header. It stands at 0.
+    #[error("Short")]
+    Short = 1,
+    /// The file begins with no magic of the format, in neither byte order. It stands at 0.
+    #[error("Magic")]
+    Magic,
+    /// The version is not 2.4. It stands at 4.
+    #[error("Version")]
+    Version,
+    /// The low 16 bits of the link type are not 1, Ethernet. It stands at 20.
+    #[error("Link")]
+    Link,
+    /// A record's 16 bytes, or the bytes that they announce, are not all there. It stands where the record begins.
+    #[error("RecordShort")]
+    RecordShort,
+    /// A record announces more than 262,144 bytes. It stands where the record begins.
+    #[error("TooLong")]
+    TooLong,
+}
+
 /// Why a capture could not be read.
 #[derive(Clone, Copy, Debug, PartialEq, Eq, Error)]
 pub enum CaptureFault {
-    /// The bytes are no capture's file.
-    #[error("not a capture file")]
-    Refused,
+    /// The bytes are no capture's file, and this is their first fault: its place in bytes from 0, and what is wrong there.
+    #[error("not a capture file: {why} at {at}")]
+    Bad { at: u64, why: CaptureWhy },
     /// There was no memory for the frames.
     #[error("out of memory")]
     Memory,

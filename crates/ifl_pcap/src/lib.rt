@@ -1,16 +1,18 @@
-//! Captures as files: the capture file format 2.4, in its little-endian form with microseconds.
+//! Captures as files: the capture file format 2.4, in both byte orders, with microseconds or nanoseconds.
 //!
 //! It stands on `ifl_base`, and reads and writes numbers by `byteorder`. Its contract: `read_capture` gives a
-//! capture exactly where the bytes are a capture's file, and that file's frames; `write_capture` gives the one
-//! file that is written for a capture.
+//! capture exactly where the bytes are a capture's file, and that file's frames; elsewhere it names the first
+//! fault of the bytes, with its place; `write_capture` gives the one file that is written for a capture.
 #![tactic(auto)]
 
 mod fault;
+mod form;
 mod frame;
+mod header;
 mod reading;
 mod writing;
 
-pub use fault::CaptureFault;
+pub use fault::{CaptureFault, CaptureWhy};
 pub use frame::{Capture, Frame};
 pub use reading::read_capture;
 pub use writing::{record_len, write_capture};

@@ -1,6 +1,7 @@
 ghost use Rattle.std.specs.Prelude.{◌≡◌, ◌<◌, ◌+◌, ◌^◌, ◌++◌, length, OnOk, IfOk};
 ghost use Rattle.std.specs.List.{AllByRecursion};
-ghost use Rattle.ifl_pcap.specs.Numbers.{spelled};
+ghost use Rattle.ifl_pcap.specs.declared.form.Order.TheVariants.{Little};
+ghost use Rattle.ifl_pcap.specs.Numbers.{spelled_in};
 ghost use Rattle.ifl_pcap.specs.File.{Fits, record_of, written};
 
 use crate::frame::{Capture, Frame};
@@ -14,9 +15,9 @@ const HEADER: [u8; 24] = [
 ];
 
 /// Appends a number's four bytes.
-#[tactic(auto, unfolding(crate::specs::Numbers::spelled))]
+#[tactic(auto, unfolding(crate::specs::Numbers::spelled_in))]
 fn put_number(out: &mut Vec<u8>, n: u32) -> Result<(), NoMemory>
-    ensures { OnOk result (out.new.items ≡ out.old.items ++ spelled n) }
+    ensures { OnOk result (out.new.items ≡ out.old.items ++ spelled_in Little n) }
 {
     let mut bytes = [0u8; 4];
     LittleEndian::write_u32(&mut bytes, n);

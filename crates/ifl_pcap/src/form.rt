@@ -1,0 +1,24 @@
+/// In which order the bytes of a file's numbers stand.
+#[derive(Clone, Copy)]
+pub enum Order {
+    /// The lowest byte first.
+    Little,
+    /// The highest byte first.
+    Big,
+}
+
+/// What the fraction of a record's second counts.
+#[derive(Clone, Copy)]
+pub enum Fraction {
+    /// Microseconds.
+    Micros,
+    /// Nanoseconds.
+    Nanos,
+}
+
+/// The form of a file, which its magic tells.
+#[derive(Clone, Copy)]
+pub struct Form {
+    pub order: Order,
+    pub fraction: Fraction,
+}
