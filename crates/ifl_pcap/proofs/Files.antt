@@ -8,12 +8,12 @@ use Rattle.ifl_pcap.specs.declared.fault.CaptureWhy.{CaptureWhy}
 use Rattle.ifl_pcap.specs.declared.fault.CaptureWhy.TheVariants.{Short, Magic, Version, Link, RecordShort, TooLong}
 use Rattle.ifl_pcap.specs.declared.fault.CaptureFault.{CaptureFault}
 use Rattle.ifl_pcap.specs.declared.fault.CaptureFault.TheVariants.{Bad, Memory}
-use Rattle.ifl_pcap.specs.File.{HasHeader, IsRecord, AreRecords, Fits, IsFile}
+use Rattle.ifl_pcap.specs.File.{HasHeader, AreRecords, Fits, IsFile}
 use Rattle.ifl_pcap.specs.Faults.{IsBadRecord, IsRecordFault, IsFirstFault, IsFaultOf}
 use Rattle.ifl_pcap.specs.Reading.{◌>>=◌, Fails, bad, frame_at, header_at, frames_at, capture_of}
 use Rattle.ifl_pcap.proofs.Numbers.{IsBytes, IsBytes-drop}
-use Rattle.ifl_pcap.proofs.Records.{length-IsRecord, frame_at-IsRecord, frame_at-IsBadRecord, HasRecord, HasNone, record_or_not, ok_is, ok_or_bad}
-use Rattle.ifl_pcap.proofs.Headers.{header_at-HasHeader, header_at-Short, header_at-Magic, header_at-Version, header_at-Link, HasFault, HasForm, header_or_fault}
+use Rattle.ifl_pcap.proofs.Records.{length-IsRecord, frame_at-IsRecord, frame_at-IsBadRecord, record_or_not, ok_is, ok_or_bad}
+use Rattle.ifl_pcap.proofs.Headers.{header_at-HasHeader, header_at-Short, header_at-Magic, header_at-Version, header_at-Link, header_or_fault}
 
 abbrev pub with_front : List Frame → Result (List Frame) CaptureFault → Result (List Frame) CaptureFault
 with_front front read = read >>= λ fs. Ok (front ++ fs)
@@ -150,39 +150,17 @@ is_first bytes at form rest Magic wrong h = absurd wrong
 is_first bytes at form rest Version wrong h = absurd wrong
 is_first bytes at form rest Link wrong h = absurd wrong
 
--- the bytes are a file
-record HasFrames (bytes : List ℕ) : Type 0 where
-  frames : List Frame
-  file : IsFile bytes frames
-
-file_or_fault : (bytes : List ℕ) → IsBytes bytes → HasFrames bytes ⊎ HasFault bytes
+-- bytes are a file, or have a first fault
+pub file_or_fault : (bytes : List ℕ) → IsBytes bytes → ((fs : List Frame) × IsFile bytes fs) ⊎ ((at : ℕ) × (why : CaptureWhy) × IsFirstFault bytes at why)
 file_or_fault bytes fits =
     elim (header_or_fault bytes) [
-      | inr fault ↦ inr fault
+      | inr fault ↦ inr (fault.at, fault.why, fault.first)
       | inl h ↦ elim (records_or_not h.form (length (drop 24 bytes)) (drop 24 bytes) (IsBytes-drop 24 bytes fits) (omega arith)) [
-        | inl all ↦ inl (record { frames = all.frames; file = record { form = h.form; header = h.header; records = all.are } })
-        | inr n ↦ inr (record {
-          at = length bytes - length n.rest;
-          why = n.why;
-          first = is_first bytes (length bytes - length n.rest) h.form n.rest n.why n.wrong (record {
-            form = h.form;
-            header = h.header;
-            frames = n.frames;
-            rest = n.rest;
-            records = n.are;
-            some = n.some;
-            place = omega (arith, length-AreRecords h.form n.frames (drop 24 bytes) n.rest n.are, length-drop 24 bytes);
-            wrong = n.wrong;
-          });
-        })
+        | inl all ↦ inl (all.frames, record { form = h.form; header = h.header; records = all.are })
+        | inr n ↦ let at = length bytes - length n.rest in
+            let place : at + length n.rest ≡ length bytes = omega (arith, length-AreRecords h.form n.frames (drop 24 bytes) n.rest n.are, length-drop 24 bytes) in
+            inr (at, n.why, is_first bytes at h.form n.rest n.why n.wrong (record { form = h.form; header = h.header; frames = n.frames; rest = n.rest; records = n.are; some = n.some; place = place; wrong = n.wrong }))
       ]
-    ]
-
-pub IsFile-capture_of : (bytes : List ℕ) (fs : List Frame) → IsBytes bytes → capture_of bytes ≡ Ok fs → IsFile bytes fs
-IsFile-capture_of bytes fs fits e =
-    elim (file_or_fault bytes fits) [
-      | inl h ↦ subst (IsFile bytes) (ok_is h.frames fs (sym (capture_of-IsFile bytes h.frames h.file) ∙ e)) h.file
-      | inr h ↦ absurd (ok_or_bad fs h.at h.why (sym (capture_of-IsFirstFault bytes h.at h.why h.first) ∙ e))
     ]
 
 abbrev failed : CaptureFault → Result (List Frame) CaptureFault
@@ -191,20 +169,34 @@ failed e = Err e
 fault_is : (a b : CaptureFault) → failed a ≡ failed b → a ≡ b
 fault_is a b e = cc
 
-not_both : (fs : List Frame) (e : CaptureFault) → failed e ≡ Ok fs → ⊥
-not_both fs e is = cc
+pub not_file_and_fault : (bytes : List ℕ) (fs : List Frame) (at : ℕ) (why : CaptureWhy) → IsFile bytes fs → IsFirstFault bytes at why → ⊥
+not_file_and_fault bytes fs at why file fault = ok_or_bad fs at why (sym (capture_of-IsFirstFault bytes at why fault) ∙ capture_of-IsFile bytes fs file)
 
-IsFaultOf-capture_of : (bytes : List ℕ) (e : CaptureFault) → IsBytes bytes → capture_of bytes ≡ Err e → IsFaultOf bytes e
-IsFaultOf-capture_of bytes e fits is =
+pub one_list_of_frames : (bytes : List ℕ) (fs gs : List Frame) → IsFile bytes fs → IsFile bytes gs → fs ≡ gs
+one_list_of_frames bytes fs gs file other = ok_is fs gs (sym (capture_of-IsFile bytes fs file) ∙ capture_of-IsFile bytes gs other)
+
+same_bad : (at place : ℕ) (why other : CaptureWhy) → Bad at why ≡ Bad place other → (at ≡ place) × (why ≡ other)
+same_bad at place why other e = (cc, cc)
+
+pub one_first_fault : (bytes : List ℕ) (at place : ℕ) (why other : CaptureWhy) → IsFirstFault bytes at why → IsFirstFault bytes place other → (at ≡ place) × (why ≡ other)
+one_first_fault bytes at place why other first second =
+    same_bad at place why other (fault_is (Bad at why) (Bad place other) (sym (capture_of-IsFirstFault bytes at why first) ∙ capture_of-IsFirstFault bytes place other second))
+
+pub IsFile-capture_of : (bytes : List ℕ) (fs : List Frame) → IsBytes bytes → capture_of bytes ≡ Ok fs → IsFile bytes fs
+IsFile-capture_of bytes fs fits e =
     elim (file_or_fault bytes fits) [
-      | inl h ↦ absurd (not_both h.frames e (sym is ∙ capture_of-IsFile bytes h.frames h.file))
-      | inr h ↦ subst (IsFaultOf bytes) (fault_is (Bad h.at h.why) e (sym (capture_of-IsFirstFault bytes h.at h.why h.first) ∙ is)) h.first
+      | inl h ↦ subst (IsFile bytes) (ok_is h.0 fs (sym (capture_of-IsFile bytes h.0 h.1) ∙ e)) h.1
+      | inr h ↦ absurd (ok_or_bad fs h.0 h.1 (sym (capture_of-IsFirstFault bytes h.0 h.1 h.2) ∙ e))
     ]
 
 -- a fault that is answered is of the bytes
 pub IsFaultOf-Fails : (bytes : List ℕ) (e : CaptureFault) → IsBytes bytes → Fails e (capture_of bytes) → IsFaultOf bytes e
 IsFaultOf-Fails bytes Memory fits h = tt
-IsFaultOf-Fails bytes (Bad at why) fits h = IsFaultOf-capture_of bytes (Bad at why) fits h
+IsFaultOf-Fails bytes (Bad at why) fits h =
+    elim (file_or_fault bytes fits) [
+      | inl file ↦ absurd (ok_or_bad file.0 at why (sym h ∙ capture_of-IsFile bytes file.0 file.1))
+      | inr first ↦ subst (IsFaultOf bytes) (fault_is (Bad first.0 first.1) (Bad at why) (sym (capture_of-IsFirstFault bytes first.0 first.1 first.2) ∙ h)) first.2
+    ]
 
 -- frames that a file holds fit in records
 pub Fits-AreRecords : (form : Form) (fs : List Frame) (bytes rest : List ℕ) → AreRecords form fs bytes rest → AllByRecursion Fits fs

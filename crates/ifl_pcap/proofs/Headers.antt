@@ -1,5 +1,5 @@
 -- A header is read as its form, and bytes at whose front no header stands have their first fault there.
-use Rattle.std.proofs.Common.{◌≡◌, ◌≢◌, ◌⊎◌, ℕ, ◌+◌, ◌<◌, ◌≤◌, Bool, true, false, cond, ltb, List, length, take, drop, Option, Some, None, Result, Ok, Err, refl, sym, ap, subst, ◌∙◌, arith, inl, inr}
+use Rattle.std.proofs.Common.{◌≡◌, ◌≢◌, ◌⊎◌, ℕ, ◌<◌, ◌≤◌, true, false, List, length, take, drop, Some, None, Ok, refl, sym, ap, ◌∙◌, inl, inr}
 use Rattle.std.specs.Str.{bytes_eq}
 use Rattle.std.proofs.lemmas.Bool.{cases_lt, cases_Bool, lt-ltb, le-ltb, false_from_ne_true, true≢false}
 use Rattle.std.proofs.lemmas.Slice.Eq.{bytes_eq-Decides}
@@ -10,10 +10,9 @@ use Rattle.ifl_pcap.specs.declared.form.Fraction.TheVariants.{Micros, Nanos}
 use Rattle.ifl_pcap.specs.declared.form.Form.{Form}
 use Rattle.ifl_pcap.specs.declared.fault.CaptureWhy.{CaptureWhy}
 use Rattle.ifl_pcap.specs.declared.fault.CaptureWhy.TheVariants.{Short, Magic, Version, Link}
-use Rattle.ifl_pcap.specs.declared.fault.CaptureFault.{CaptureFault}
 use Rattle.ifl_pcap.specs.File.{magic, magic_of, version, ethernet, link_place, HasHeader}
 use Rattle.ifl_pcap.specs.Faults.{IsFirstFault, IsOtherVersion, IsOtherLink}
-use Rattle.ifl_pcap.specs.Reading.{bad, form_of, header_of, header_at}
+use Rattle.ifl_pcap.specs.Reading.{bad, form_of, header_at}
 
 bytes_eq-same : (xs ys : List ℕ) → xs ≡ ys → bytes_eq xs ys ≡ true
 bytes_eq-same xs ys is = (bytes_eq-Decides xs ys).1 is

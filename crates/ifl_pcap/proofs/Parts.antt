@@ -1,5 +1,5 @@
 -- The four numbers of a record, and what stands behind them.
-use Rattle.std.proofs.Common.{◌≡◌, ℕ, ◌+◌, ◌^◌, ◌<◌, ◌≤◌, List, ◌++◌, length, take, drop, sym, ap, ◌∙◌, append_assoc, arith}
+use Rattle.std.proofs.Common.{◌≡◌, ℕ, ◌+◌, List, ◌++◌, length, take, drop, sym, ap, ◌∙◌, append_assoc, arith}
 use Rattle.std.proofs.lemmas.List.{drop_at, drop-drop, take-append-drop, length-append}
 use Rattle.ifl_pcap.specs.declared.form.Order.{Order}
 use Rattle.ifl_pcap.specs.declared.form.Order.TheVariants.{Little}

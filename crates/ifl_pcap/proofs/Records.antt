@@ -1,19 +1,16 @@
 -- A record is read as its frame, and bytes at whose front no record stands have what is wrong there.
-use Rattle.std.proofs.Common.{◌≡◌, ℕ, ◌+◌, ◌^◌, ◌<◌, ◌≤◌, ◌⊎◌, true, false, cond, ltb, List, ◌++◌, length, take, drop, Result, Ok, Err, refl, sym, ap, subst, ◌∙◌, append_assoc, arith, inl, inr}
+use Rattle.std.proofs.Common.{◌≡◌, ℕ, ◌+◌, ◌^◌, ◌<◌, ◌≤◌, ◌⊎◌, false, ltb, List, ◌++◌, length, take, drop, Result, Ok, refl, sym, ap, subst, ◌∙◌, arith, inl, inr}
 use Rattle.std.proofs.lemmas.Bool.{cases_lt, lt-ltb, le-ltb}
 use Rattle.std.proofs.lemmas.List.{take_at, drop_at, take-append-drop, length-append, length-take, length-drop}
-use Rattle.ifl_base.specs.declared.ticket.Stamp.{Stamp}
 use Rattle.ifl_pcap.specs.declared.form.Fraction.{Fraction}
 use Rattle.ifl_pcap.specs.declared.form.Fraction.TheVariants.{Micros, Nanos}
-use Rattle.ifl_pcap.specs.declared.form.Order.{Order}
 use Rattle.ifl_pcap.specs.declared.form.Form.{Form}
 use Rattle.ifl_pcap.specs.declared.frame.Frame.{Frame}
 use Rattle.ifl_pcap.specs.declared.fault.CaptureWhy.{CaptureWhy}
 use Rattle.ifl_pcap.specs.declared.fault.CaptureWhy.TheVariants.{Short, Magic, Version, Link, RecordShort, TooLong}
 use Rattle.ifl_pcap.specs.declared.fault.CaptureFault.{CaptureFault}
-use Rattle.ifl_pcap.specs.declared.fault.CaptureFault.TheVariants.{Bad, Memory}
 use Rattle.ifl_pcap.specs.Numbers.{spelled_in, number_in}
-use Rattle.ifl_pcap.specs.File.{micros, record_with, Fits, IsRecord}
+use Rattle.ifl_pcap.specs.File.{micros, record_with, IsRecord}
 use Rattle.ifl_pcap.specs.Faults.{announced, IsBadRecord}
 use Rattle.ifl_pcap.specs.Reading.{bad, stamp_at, frame_at}
 use Rattle.ifl_pcap.proofs.Numbers.{IsBytes, IsBytes-drop, spelled_in-number_in, number_in-spelled_in, number_in-lt}

@@ -1,13 +1,18 @@
 -- A record that is put behind what was written.
-use Rattle.std.proofs.Common.{◌≡◌, ℕ, ◌+◌, ◌<◌, List, [], ◌∷◌, ◌++◌, length, get_or, take, sym, ap, ◌∙◌, append_assoc}
-use Rattle.std.specs.List.{flat_map}
+use Rattle.std.proofs.Common.{◌≡◌, ℕ, ◌+◌, ◌<◌, List, [], ◌∷◌, ◌++◌, length, get_or, take, drop, refl, sym, ap, ◌∙◌, append_assoc, arith}
+use Rattle.std.specs.List.{flat_map, AllByRecursion}
 use Rattle.std.proofs.lemmas.Grind.{flat_map-append}
 use Rattle.std.proofs.lemmas.List.{take_more, append-nil}
 use Rattle.std.proofs.lemmas.List.Concat.{flat_map-cons}
 use Rattle.ifl_pcap.specs.declared.frame.Frame.{Frame}
 use Rattle.ifl_pcap.specs.declared.form.Order.TheVariants.{Little}
+use Rattle.ifl_pcap.specs.declared.form.Fraction.TheVariants.{Micros}
+use Rattle.ifl_pcap.specs.declared.form.Form.{Form}
 use Rattle.ifl_pcap.specs.Numbers.{spelled_in}
-use Rattle.ifl_pcap.specs.File.{record_of}
+use Rattle.ifl_pcap.specs.File.{record_of, Fits, AreRecords, HasHeader, IsFile, written_header, written}
+
+abbrev written_form : Form
+written_form = record { order = Little; fraction = Micros }
 
 append_assoc-four : (o a b c d e : List ℕ) → ((((o ++ a) ++ b) ++ c) ++ d) ++ e ≡ o ++ (a ++ (b ++ (c ++ (d ++ e))))
 append_assoc-four o a b c d e = simp append_assoc
@@ -25,3 +30,25 @@ flat_map-take_more g h xs i x out new lt is inv added =
     let more = take_more xs i x lt ∙ ap (λ (y : _). take i xs ++ y ∷ []) (sym is) in
     let all : flat_map g (take (i + 1) xs) ≡ flat_map g (take i xs) ++ g x = ap (flat_map g) more ∙ flat_map-append g (take i xs) (x ∷ []) ∙ ap (λ (r : List ℕ). flat_map g (take i xs) ++ r) (flat_map-one g x) in
     added ∙ ap (λ (o : List ℕ). o ++ g x) inv ∙ append_assoc h (flat_map g (take i xs)) (g x) ∙ ap (λ (r : List ℕ). h ++ r) (sym all)
+
+-- written records are those of their frames
+AreRecords-flat_map : (fs : List Frame) → AllByRecursion Fits fs → AreRecords written_form fs (flat_map record_of fs) []
+AreRecords-flat_map [] fit = refl
+AreRecords-flat_map (f ∷ fs) fit =
+    (flat_map record_of fs, record { fraction = f.stamp.usec; counted = fit.0.usec; time = refl; fit = fit.0; parts = flat_map-cons record_of f fs }, AreRecords-flat_map fs fit.1)
+
+HasHeader-written_header : (rest : List ℕ) → HasHeader written_form (written_header ++ rest)
+unfolding written_header
+HasHeader-written_header rest = record { long = omega arith; begins = refl; revision = refl; link = refl }
+
+drop-written_header : (rest : List ℕ) → drop 24 (written_header ++ rest) ≡ rest
+unfolding written_header
+drop-written_header rest = refl
+
+-- what is written for frames is a file of them
+pub IsFile-written : (fs : List Frame) → AllByRecursion Fits fs → IsFile (written fs) fs
+IsFile-written fs fit = record {
+  form = written_form;
+  header = HasHeader-written_header (flat_map record_of fs);
+  records = rw drop-written_header (AreRecords-flat_map fs fit);
+}

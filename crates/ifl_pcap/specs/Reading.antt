@@ -11,7 +11,7 @@ use Rattle.ifl_pcap.specs.declared.fault.CaptureWhy.TheVariants.{Short, Magic, V
 use Rattle.ifl_pcap.specs.declared.fault.CaptureFault.{CaptureFault}
 use Rattle.ifl_pcap.specs.declared.fault.CaptureFault.TheVariants.{Bad, Memory}
 use Rattle.ifl_pcap.specs.Numbers.{number_in}
-use Rattle.ifl_pcap.specs.File.{magic, magic_of, version, ethernet, link_place, micros}
+use Rattle.ifl_pcap.specs.File.{magic_of, version, ethernet, link_place, micros}
 use Rattle.ifl_pcap.specs.Faults.{announced}
 
 infixl 10 ◌>>=◌

@@ -1,3 +1,9 @@
+/// The bytes of a file's header.
+pub const HEADER_LEN: usize = 24;
+
+/// The bytes of a record before its captured ones.
+pub const HEAD_LEN: usize = 16;
+
 /// In which order the bytes of a file's numbers stand.
 #[derive(Clone, Copy)]
 pub enum Order {

@@ -4,7 +4,7 @@ ghost use Rattle.ifl_pcap.specs.File.{version, ethernet, link_place};
 ghost use Rattle.ifl_pcap.specs.Reading.{form_of, header_at};
 
 use crate::fault::{CaptureFault, CaptureWhy};
-use crate::form::{Form, Fraction, Order};
+use crate::form::{Form, Fraction, HEADER_LEN, Order};
 
 /// The magics of the four forms.
 const LITTLE_MICROS: [u8; 4] = [0xd4, 0xc3, 0xb2, 0xa1];
@@ -79,7 +79,7 @@ pub fn header_of(bytes: &[u8]) -> Result<Form, CaptureFault>
     ensures form { result ≡ header_at bytes.now }
     ensures long { IfOk result (λ _. 24 ≤ length bytes.now) }
 {
-    if bytes.len() < 24 {
+    if bytes.len() < HEADER_LEN {
         return Err(CaptureFault::Bad {
             at: 0,
             why: CaptureWhy::Short,

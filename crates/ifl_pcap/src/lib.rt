@@ -9,6 +9,7 @@ mod fault;
 mod form;
 mod frame;
 mod header;
+pub mod laws;
 mod reading;
 mod writing;
 

@@ -8,7 +8,7 @@ ghost use Rattle.ifl_pcap.specs.Faults.{IsFirstFault, IsFaultOf};
 ghost use Rattle.ifl_pcap.specs.Reading.{Gives, stamp_at, frame_at, frames_at, capture_of};
 
 use crate::fault::{CaptureFault, CaptureWhy};
-use crate::form::{Form, Fraction, Order};
+use crate::form::{Form, Fraction, HEAD_LEN, HEADER_LEN, Order};
 use crate::frame::{Capture, Frame};
 use crate::header::header_of;
 use crate::writing::record_len;
@@ -65,7 +65,7 @@ fn frame_of(
 ) -> Result<(Frame, &[u8]), CaptureFault>
     ensures { Gives (λ x. (x.0, x.1.now)) result (frame_at form at bytes.now) }
 {
-    if bytes.len() < 16 {
+    if bytes.len() < HEAD_LEN {
         return Err(CaptureFault::Bad {
             at,
             why: CaptureWhy::RecordShort,
@@ -79,7 +79,7 @@ fn frame_of(
             why: CaptureWhy::TooLong,
         });
     }
-    let (_, behind) = bytes.split_at(16);
+    let (_, behind) = bytes.split_at(HEAD_LEN);
     if behind.len() < len {
         return Err(CaptureFault::Bad {
             at,
@@ -97,8 +97,8 @@ fn frames_of(alloc: Global, form: Form, file: &[u8]) -> Result<Items<Frame>, Cap
     ensures { Gives (λ x. x) result (frames_at form (length (drop 24 file.now)) 24 (drop 24 file.now)) }
 {
     let mut frames = Items::new(alloc);
-    let (_, mut rest) = file.split_at(24);
-    let mut at = 24;
+    let (_, mut rest) = file.split_at(HEADER_LEN);
+    let mut at = HEADER_LEN as u64;
     while 0 < rest.len() {
         let (frame, after) = frame_of(alloc, form, at, rest)?;
         at += record_len(&frame);
