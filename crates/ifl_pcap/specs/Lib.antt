@@ -1,4 +1,5 @@
 pub mod Numbers
 pub mod File
 pub mod Faults
+pub mod Names
 pub mod Reading

@@ -1,5 +1,6 @@
 ghost use Rattle.std.specs.Prelude.{◌≡◌};
 ghost use Rattle.ifl_pcap.specs.declared.fault.CaptureFault.TheVariants.{Memory};
+ghost use Rattle.ifl_pcap.specs.Names.{why_name};
 
 use ifl_base::NoMemory;
 use std::alloc::{AllocError, AllocFailed};
@@ -26,6 +27,22 @@ pub enum CaptureWhy {
     /// A record announces more than 262,144 bytes. It stands where the record begins.
     #[error("TooLong")]
     TooLong,
+}
+
+impl CaptureWhy {
+    /// The name of what is wrong, as fault lines tell it.
+    pub fn name(self) -> &'static str
+        ensures { result.now ≡ why_name self }
+    {
+        match self {
+            CaptureWhy::Short => "Short",
+            CaptureWhy::Magic => "Magic",
+            CaptureWhy::Version => "Version",
+            CaptureWhy::Link => "Link",
+            CaptureWhy::RecordShort => "RecordShort",
+            CaptureWhy::TooLong => "TooLong",
+        }
+    }
 }
 
 /// Why a capture could not be read.
