@@ -3,13 +3,14 @@ use Rattle.std.proofs.Common.{◌≡◌, Bool, true, false, cond, ℕ, zero, suc
 use Rattle.std.specs.Prelude.{sum_by, filter}
 use Rattle.std.specs.List.{flat_map, enumerate_from, AllByRecursion}
 use Rattle.std.proofs.lemmas.Grind.{flat_map-append}
-use Rattle.std.proofs.lemmas.List.{take_more, append-nil, length-append, length-drop}
+use Rattle.std.proofs.lemmas.List.{take_more, append-nil, length-append}
 use Rattle.std.proofs.lemmas.List.FromFn.{length-enumerate_from, get_or-enumerate_from}
 use Rattle.std.proofs.lemmas.List.Concat.{flat_map-cons}
 use Rattle.std.proofs.lemmas.List.Sums.{sum_by-cons}
 use Rattle.ifl_pcap.specs.declared.frame.Frame.{Frame}
 use Rattle.ifl_pcap.specs.File.{record_of, written, written_header, IsFile, Fits}
-use Rattle.ifl_pcap.proofs.Laws.{length-record_of}
+use Rattle.ifl_pcap.proofs.Parts.{length-record_of}
+use Rattle.ifl_pcap.proofs.Files.{Fits-IsFile, length-IsFile}
 use Rattle.ifl_engine.specs.Steps.{IsSmall}
 
 one : {X A : Type 0} (g : X → List A) (x : X) → flat_map g (x ∷ []) ≡ g x
@@ -49,7 +50,7 @@ unfolding written_header
 length-written fs = omega (arith, length-append written_header (flat_map record_of fs), length-records fs)
 
 pub is_small : (bytes : List ℕ) (fs : List Frame) → length bytes ≤ 67108864 → IsFile bytes fs → IsSmall fs
-is_small bytes fs le file = record { fit = file.fit; few = omega (arith, length-records fs, ap length file.records, length-drop 24 bytes) }
+is_small bytes fs le file = record { fit = Fits-IsFile bytes fs file; few = omega (arith, le, length-IsFile bytes fs file) }
 
 pub fits_kept : (p : Frame → Bool) (fs : List Frame) → AllByRecursion Fits fs → AllByRecursion Fits (filter p fs)
 fits_kept p [] h = tt

@@ -8,7 +8,8 @@ use Rattle.ifl_outside.specs.Fetched.{IsFetch}
 use Rattle.ifl_outside.specs.declared.host.Fetch.TheVariants as fetch
 use Rattle.ifl_pcap.specs.declared.frame.Frame.{Frame}
 use Rattle.ifl_pcap.specs.declared.frame.Capture.{Capture}
-use Rattle.ifl_pcap.specs.declared.fault.CaptureFault.TheVariants.{Refused}
+use Rattle.ifl_pcap.specs.declared.fault.CaptureWhy.{CaptureWhy}
+use Rattle.ifl_pcap.specs.declared.fault.CaptureFault.TheVariants.{Bad}
 use Rattle.ifl_pcap.specs.Reading.{capture_of}
 use Rattle.ifl_engine.specs.declared.stop.Stop.{Stop}
 use Rattle.ifl_engine.specs.declared.stop.Stop.TheVariants as stop
@@ -68,8 +69,8 @@ from_files (Some fs) P X step h = step (λ n name. held fs name) h
 pub captures_in-ok : (bytes : List ℕ) (fs : List Frame) → capture_of bytes ≡ Ok fs → captures_in bytes ≡ Ok (fs ∷ [])
 captures_in-ok bytes fs is = rw is refl
 
-pub captures_in-refused : (bytes : List ℕ) → capture_of bytes ≡ Err Refused → captures_in bytes ≡ Err stop.Capture
-captures_in-refused bytes is = rw is refl
+pub captures_in-bad : (bytes : List ℕ) (at : ℕ) (why : CaptureWhy) → capture_of bytes ≡ Err (Bad at why) → captures_in bytes ≡ Err (stop.Capture at why)
+captures_in-bad bytes at why is = rw is refl
 
 -- the file was not read: nor is what stands behind it
 pub IsRead-stopped : {X Y : Type 0} (view : X → Y) (file : Result (List ℕ) Stop) (then : List ℕ → Result Y Stop) (why : Stop) → IsRead bytes_of (Err why) file → IsRead view (Err why) (file >>= then)
@@ -78,7 +79,7 @@ IsRead-stopped view file then stop.ReadFailed read = tt
 IsRead-stopped view file then stop.Memory read = tt
 IsRead-stopped view file then stop.Absent read = ap (λ (r : Result (List ℕ) Stop). r >>= then) read
 IsRead-stopped view file then stop.TooLong read = ap (λ (r : Result (List ℕ) Stop). r >>= then) read
-IsRead-stopped view file then stop.Capture read = ap (λ (r : Result (List ℕ) Stop). r >>= then) read
+IsRead-stopped view file then (stop.Capture at why) read = ap (λ (r : Result (List ℕ) Stop). r >>= then) read
 IsRead-stopped view file then stop.WireFailed read = absurd read
 IsRead-stopped view file then stop.OrderFailed read = absurd read
 IsRead-stopped view file then stop.PrintFailed read = absurd read

@@ -78,7 +78,7 @@ read_stopped view names w stop.ReadFailed read before mid after status passes is
 read_stopped view names w stop.Memory read before mid after status passes is files printed later rose told = gave_up names (w read) stop.Memory before mid after status (inr refl) (λ five. absurd (omega (arith, five))) files later told
 read_stopped view names w stop.Absent read before mid after status passes is files printed later rose told = stopped names (w read) stop.Absent before mid after status (ap w is ∙ passes stop.Absent) (omega arith) (λ e. absurd (omega (arith, e))) files printed later told
 read_stopped view names w stop.TooLong read before mid after status passes is files printed later rose told = stopped names (w read) stop.TooLong before mid after status (ap w is ∙ passes stop.TooLong) (omega arith) (λ e. absurd (omega (arith, e))) files printed later told
-read_stopped view names w stop.Capture read before mid after status passes is files printed later rose told = stopped names (w read) stop.Capture before mid after status (ap w is ∙ passes stop.Capture) (omega arith) (λ e. absurd (omega (arith, e))) files printed later told
+read_stopped view names w (stop.Capture at what) read before mid after status passes is files printed later rose told = stopped names (w read) (stop.Capture at what) before mid after status (ap w is ∙ passes (stop.Capture at what)) (omega arith) (λ e. absurd (omega (arith, e))) files printed later told
 read_stopped view names w stop.WireFailed read before mid after status passes is files printed later rose told = absurd is
 read_stopped view names w stop.OrderFailed read before mid after status passes is files printed later rose told = absurd is
 read_stopped view names w stop.PrintFailed read before mid after status passes is files printed later rose told = absurd is

@@ -27,7 +27,7 @@ IsRead view (Err stop.ReadFailed) read = Unit {0}
 IsRead view (Err stop.Memory) read = Unit {0}
 IsRead view (Err stop.Absent) read = read ≡ Err stop.Absent
 IsRead view (Err stop.TooLong) read = read ≡ Err stop.TooLong
-IsRead view (Err stop.Capture) read = read ≡ Err stop.Capture
+IsRead view (Err (stop.Capture at why)) read = read ≡ Err (stop.Capture at why)
 IsRead view (Err e) read = ⊥
 
 -- the stop for a call of the host that did not succeed

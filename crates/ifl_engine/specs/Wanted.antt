@@ -1,7 +1,9 @@
 -- What a run is to do, or the first thing that stops it: one line for each refusal, in the order of refusals.
-use Rattle.std.specs.Prelude.{ℕ, List, [], ◌∷◌, ◌++◌, length, Option, Some, None, Result, Ok, Err, nat_lt, if◌then◌else◌, codes}
+use Rattle.std.specs.Prelude.{ℕ, List, [], ◌∷◌, ◌++◌, length, Option, Some, None, Result, Ok, Err, nat_lt, if◌then◌else◌, codes, decimal}
 use Rattle.ifl_pcap.specs.declared.frame.Frame.{Frame}
 use Rattle.ifl_pcap.specs.declared.fault.CaptureFault.{CaptureFault}
+use Rattle.ifl_pcap.specs.declared.fault.CaptureFault.TheVariants as bad
+use Rattle.ifl_pcap.specs.Names.{why_name}
 use Rattle.ifl_pcap.specs.Reading.{capture_of}
 use Rattle.ifl_engine.specs.declared.words.WordFault.{WordFault}
 use Rattle.ifl_engine.specs.declared.words.WordFault.TheVariants as fault
@@ -24,7 +26,8 @@ in_words (Err e) = Err (stop.Words e)
 
 abbrev pub in_capture : {A : Type 0} → Result A CaptureFault → Result A Stop
 in_capture (Ok x) = Ok x
-in_capture (Err e) = Err stop.Capture
+in_capture (Err (bad.Bad at why)) = Err (stop.Capture at why)
+in_capture (Err bad.Memory) = Err stop.Memory
 
 -- a file that is not longer than the limit
 abbrev pub file_at : ℕ → Option (List ℕ) → Result (List ℕ) Stop
@@ -82,7 +85,7 @@ status_of (stop.Words fault.Names) = 1
 status_of (stop.Words fault.Memory) = 6
 status_of stop.Absent = 4
 status_of stop.TooLong = 7
-status_of stop.Capture = 3
+status_of (stop.Capture at why) = 3
 status_of stop.ReadFailed = 5
 status_of stop.WireFailed = 5
 status_of stop.OrderFailed = 5
@@ -96,12 +99,12 @@ word_fault_name fault.Refused = codes "refused"
 word_fault_name fault.Names = codes "names"
 word_fault_name fault.Memory = []
 
--- the fault line: what stopped the run, with the name as given
+-- the fault line: what stopped the run, with the name as given, and where and why a file is no capture
 abbrev pub line_of : Named → Stop → List ℕ
 line_of names (stop.Words f) = codes "words: " ++ (word_fault_name f ++ codes "\n")
 line_of names stop.Absent = codes "absent: " ++ (names.file ++ codes "\n")
 line_of names stop.TooLong = codes "limit: " ++ (names.file ++ codes "\n")
-line_of names stop.Capture = codes "capture: " ++ (names.file ++ codes "\n")
+line_of names (stop.Capture at why) = codes "capture: " ++ (names.file ++ (codes " at " ++ (decimal at ++ (codes ": " ++ (why_name why ++ codes "\n")))))
 line_of names stop.ReadFailed = codes "host: read " ++ (names.file ++ codes "\n")
 line_of names stop.WireFailed = codes "host: write " ++ (names.wire ++ codes "\n")
 line_of names stop.OrderFailed = codes "host: write " ++ (names.order ++ codes "\n")

@@ -44,7 +44,7 @@ fn parsed(alloc: Global, bytes: &[u8]) -> Result<Capture, Stop>
 {
     match read_capture(alloc, bytes) {
         Ok(capture) => Ok(capture),
-        Err(CaptureFault::Refused) => Err(Stop::Capture),
+        Err(CaptureFault::Bad { at, why }) => Err(Stop::Capture { at, why }),
         Err(CaptureFault::Memory) => Err(Stop::Memory),
     }
 }

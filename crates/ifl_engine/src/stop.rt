@@ -2,6 +2,7 @@ ghost use Rattle.std.specs.Prelude.{◌≡◌};
 ghost use Rattle.ifl_engine.specs.Wanted.{status_of};
 
 use crate::words::WordFault;
+use ifl_pcap::CaptureWhy;
 
 /// What stops a run, in the order of refusals.
 #[derive(Clone, Copy, Debug, PartialEq, Eq)]
@@ -14,8 +15,8 @@ pub enum Stop {
     Absent,
     /// The capture's file is longer than its limit.
     TooLong,
-    /// The file is no capture.
-    Capture,
+    /// The file is no capture: the first place that is at fault, in bytes from 0, and what is wrong there.
+    Capture { at: u64, why: CaptureWhy },
     /// The host failed to write the wire file.
     WireFailed,
     /// The host failed to write the order file.
@@ -35,7 +36,7 @@ pub fn status(stop: Stop) -> u8
         Stop::Words(_) => 1,
         Stop::Absent => 4,
         Stop::TooLong => 7,
-        Stop::Capture => 3,
+        Stop::Capture { .. } => 3,
         Stop::ReadFailed | Stop::WireFailed | Stop::OrderFailed | Stop::PrintFailed => 5,
     }
 }

@@ -40,7 +40,10 @@ fn fault_line(
         }
         Stop::Absent => format!(in alloc; "absent: {file}\n"),
         Stop::TooLong => format!(in alloc; "limit: {file}\n"),
-        Stop::Capture => format!(in alloc; "capture: {file}\n"),
+        Stop::Capture { at, why } => {
+            let why = why.name();
+            format!(in alloc; "capture: {file} at {at}: {why}\n")
+        }
         Stop::ReadFailed => format!(in alloc; "host: read {file}\n"),
         Stop::WireFailed => format!(in alloc; "host: write {wire}\n"),
         Stop::OrderFailed => format!(in alloc; "host: write {order}\n"),

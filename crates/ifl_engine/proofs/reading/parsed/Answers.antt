@@ -1,5 +1,5 @@
 use Rattle.ifl_engine.proofs.Lines.{is_small}
-use Rattle.ifl_engine.proofs.ReadLaws.{captures_in-ok, captures_in-refused}
+use Rattle.ifl_engine.proofs.ReadLaws.{captures_in-ok, captures_in-bad}
 use Rattle.ifl_engine.proofs.reading.parsed.Goals as goal
 
 pub returns-in-Ok-clause-read : goal.returns-in-Ok-clause-read
@@ -8,5 +8,5 @@ returns-in-Ok-clause-read c = captures_in-ok c.args.bytes.now c.in-Ok.capture.fr
 pub returns-in-Ok-clause-small : goal.returns-in-Ok-clause-small
 returns-in-Ok-clause-small c = is_small c.args.bytes.now c.in-Ok.capture.frames c.requires c.in-Ok.ensures.found
 
-pub returns-in-Err-Refused-clause-read : goal.returns-in-Err-Refused-clause-read
-returns-in-Err-Refused-clause-read c = let exact = rw c.in-Err-Refused.field-0-is at c.in-Err-Refused.ensures.exact in captures_in-refused c.args.bytes.now exact
+pub returns-in-Err-Bad-clause-read : goal.returns-in-Err-Bad-clause-read
+returns-in-Err-Bad-clause-read c = let exact = rw c.in-Err-Bad.field-0-is at c.in-Err-Bad.ensures.exact in captures_in-bad c.args.bytes.now c.in-Err-Bad.at c.in-Err-Bad.why exact
