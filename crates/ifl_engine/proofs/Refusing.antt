@@ -8,8 +8,11 @@ use Rattle.ifl_engine.specs.declared.stop.Stop.TheVariants as stop
 use Rattle.ifl_engine.specs.Words.{Named, Asked}
 use Rattle.ifl_engine.specs.Read.{GivesWords}
 use Rattle.ifl_engine.specs.Wanted.{wanted_by, only_trace, Source, work_of, status_of, names_asked, names_or_none}
-use Rattle.ifl_engine.specs.Answer.{Seen, IsByWords, IsAnswer}
+use Rattle.ifl_engine.specs.Seen.{Seen}
+use Rattle.ifl_engine.specs.CutShort.{IsEnding}
+use Rattle.ifl_engine.specs.Answer.{IsByWords, IsAnswer}
 use Rattle.ifl_engine.specs.Steps.{IsRead, IsTold}
+use Rattle.ifl_engine.proofs.CutShort.{begins_empty}
 use Rattle.ifl_engine.proofs.Stopping.{stopped, gave_up}
 
 abbrev none : Named
@@ -29,8 +32,8 @@ refused_by_words r source fault.UnknownCommand before after status is told = ref
 refused_by_words r source fault.Refused before after status is told = refused_as r source fault.Refused before after status is (omega arith) (λ e. absurd (omega (arith, e))) told
 refused_by_words r source fault.Names before after status is told = refused_as r source fault.Names before after status is (omega arith) (λ e. absurd (omega (arith, e))) told
 refused_by_words r source fault.Memory before after status is told =
-    let here : IsTold (names_or_none r) stop.Memory before after status = record { status = told.status; later = told.later; files = told.files; line = elim (told.status) [ inl e ↦ inl e | inr e ↦ inl e ] } in
-    gave_up (names_or_none r) (wanted_by r source) stop.Memory before before after status (inr refl) (λ five. absurd (omega (arith, five))) refl (omega arith) here
+    let here : IsTold (names_or_none r) stop.Memory before after status = record { status = told.status; later = told.later; files = told.files; line = told.line; begun = told.begun } in
+    gave_up (names_or_none r) (wanted_by r source) stop.Memory before before after status (inr refl) tt (λ five. absurd (omega (arith, five))) refl (begins_empty stop.Memory (IsEnding (wanted_by r source) None) before.printed before.printed refl) (omega arith) here
 
 pub answered : (r : Result Asked WordFault) (command : Asked) (source : Source) (before after : Seen) (result : Finished) → r ≡ Ok command → IsAnswer (names_asked command) (work_of command source) before after result → IsAnswer (names_or_none r) (wanted_by r source) before after result
 answered r command source before after result is h =

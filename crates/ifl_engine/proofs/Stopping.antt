@@ -9,19 +9,34 @@ use Rattle.ifl_engine.specs.declared.stop.Stop.TheVariants as stop
 use Rattle.ifl_engine.specs.Words.{Named, send, trace}
 use Rattle.ifl_engine.specs.Tracing.{IsReplay}
 use Rattle.ifl_engine.specs.Wanted.{Source, Work, sending, tracing, ◌>>=◌, file_at, read_of, work_of, status_of, line_of, names_asked}
-use Rattle.ifl_engine.specs.Answer.{Seen, CallsFor, IsStatus, Tells, IsAnswer}
+use Rattle.ifl_engine.specs.Seen.{Seen}
+use Rattle.ifl_engine.specs.Answer.{CallsFor, IsStatus, Tells, IsAnswer}
 use Rattle.ifl_engine.specs.Steps.{IsRead, IsTold}
+use Rattle.ifl_engine.specs.CutShort.{IsEnding, IsStopOf}
 use Rattle.ifl_engine.proofs.ReadLaws.{bytes_of, frames_in}
+use Rattle.ifl_engine.proofs.CutShort.{Begins, begins_empty, cut_short}
 
-risen : (a b c : ℕ) → Rose a b → b ≤ c → Rose a c
+pub risen : (a b c : ℕ) → Rose a b → b ≤ c → Rose a c
 risen a b c h le = omega arith
 
-risen_late : (a b c : ℕ) → a ≤ b → Rose b c → Rose a c
+pub risen_late : (a b c : ℕ) → a ≤ b → Rose b c → Rose a c
 risen_late a b c le h = omega arith
 
 -- a status of the host or of memory is called for by nothing
 free : (w : Result Work Stop) (status : ℕ) → (status ≡ 5) ⊎ (status ≡ 6) → IsStatus w status
 free w status h = inr h
+
+-- a stop that is none of the host comes before all writes
+early : (w : Result Work Stop) (why : Stop) → status_of why ≢ 5 → IsStopOf w None why
+early w (stop.Words f) other = tt
+early w stop.ReadFailed other = tt
+early w stop.Absent other = tt
+early w stop.TooLong other = tt
+early w stop.Capture other = tt
+early w stop.WireFailed other = absurd (other refl)
+early w stop.OrderFailed other = absurd (other refl)
+early w stop.PrintFailed other = absurd (other refl)
+early w stop.Memory other = tt
 
 -- what stopped the run is what is called for
 pub stopped : (names : Named) (w : Result Work Stop) (why : Stop) (before mid after : Seen) (status : ℕ) → w ≡ Err why → 0 < status_of why → status_of why ≢ 5 → mid.files ≡ before.files → mid.printed ≡ before.printed → before.faults ≤ mid.faults
@@ -42,12 +57,13 @@ stopped names w why before mid after status is some other files printed later to
       | inr line ↦ inr (subst (λ (v : Result Work Stop). Tells names v status before.printed after.printed) (sym is) (subst (λ (p : Option (List ℕ)). BothTold p after.printed (λ (was now : List ℕ). now ≡ was ++ line_of names why)) printed line))
     ]
   ];
+  stopped = λ bad legal. cut_short names w None why before mid after status (early w why other) tt (begins_empty why (IsEnding w None) before.printed mid.printed printed) (λ five. absurd (other five)) told;
 }
 
 -- a call of the host failed, or memory ran out
-pub gave_up : (names : Named) (w : Result Work Stop) (why : Stop) (before mid after : Seen) (status : ℕ) → (status_of why ≡ 5) ⊎ (status_of why ≡ 6) → (status_of why ≡ 5 → Rose before.faults mid.faults) → mid.files ≡ before.files → before.faults ≤ mid.faults
+pub gave_up : (names : Named) (w : Result Work Stop) (why : Stop) (before mid after : Seen) (status : ℕ) → (status_of why ≡ 5) ⊎ (status_of why ≡ 6) → IsStopOf w None why → (status_of why ≡ 5 → Rose before.faults mid.faults) → mid.files ≡ before.files → BothTold before.printed mid.printed (Begins why (IsEnding w None)) → before.faults ≤ mid.faults
     → IsTold names why mid after status → IsAnswer names w before after (record { status = status; report = None })
-gave_up names w why before mid after status which rose files later told =
+gave_up names w why before mid after status which here rose files begun later told =
     let s : (status ≡ 5) ⊎ (status ≡ 6) = elim (told.status) [ inl e ↦ elim which [ inl five ↦ inl (e ∙ five) | inr six ↦ inr (e ∙ six) ] | inr e ↦ inr e ] in
     record {
       status = free w status s;
@@ -59,23 +75,24 @@ gave_up names w why before mid after status which rose files later told =
       left = tt;
       untouched = λ none. told.files ∙ files;
       told = λ b c. elim s [ inl five ↦ absurd (b five) | inr six ↦ absurd (c six) ];
+      stopped = λ bad legal. cut_short names w None why before mid after status here tt begun rose told;
     }
 
-abbrev as_work : Named → Result (List (List Frame)) Stop → Result Work Stop
+abbrev pub as_work : Named → Result (List (List Frame)) Stop → Result Work Stop
 as_work names read = read >>= λ captures. Ok (sending names captures)
 
-abbrev not_read : Stop → Result Capture Stop
-not_read why = Err why
+abbrev not_read : (T : Type 0) → Stop → Result T Stop
+not_read T why = Err why
 
-pub same_stop : (a b : Stop) → a ≡ b → not_read a ≡ not_read b
-same_stop a b e = ap not_read e
+pub same_stop : (T : Type 0) (a b : Stop) → a ≡ b → not_read T a ≡ not_read T b
+same_stop T a b e = ap (not_read T) e
 
 -- a file that could not be read stops what stands behind it
 pub read_stopped : {X Y : Type 0} (view : X → Y) (names : Named) (w : Result Y Stop → Result Work Stop) (why : Stop) (read : Result Y Stop) (before mid after : Seen) (status : ℕ) → ((e : Stop) → w (Err e) ≡ Err e) → IsRead view (Err why) read → mid.files ≡ before.files → mid.printed ≡ before.printed → before.faults ≤ mid.faults
     → (why ≡ stop.ReadFailed → Rose before.faults mid.faults) → IsTold names why mid after status → IsAnswer names (w read) before after (record { status = status; report = None })
 read_stopped view names w (stop.Words f) read before mid after status passes is files printed later rose told = absurd is
-read_stopped view names w stop.ReadFailed read before mid after status passes is files printed later rose told = gave_up names (w read) stop.ReadFailed before mid after status (inl refl) (λ five. rose refl) files later told
-read_stopped view names w stop.Memory read before mid after status passes is files printed later rose told = gave_up names (w read) stop.Memory before mid after status (inr refl) (λ five. absurd (omega (arith, five))) files later told
+read_stopped view names w stop.ReadFailed read before mid after status passes is files printed later rose told = gave_up names (w read) stop.ReadFailed before mid after status (inl refl) tt (λ five. rose refl) files (begins_empty stop.ReadFailed (IsEnding (w read) None) before.printed mid.printed printed) later told
+read_stopped view names w stop.Memory read before mid after status passes is files printed later rose told = gave_up names (w read) stop.Memory before mid after status (inr refl) tt (λ five. absurd (omega (arith, five))) files (begins_empty stop.Memory (IsEnding (w read) None) before.printed mid.printed printed) later told
 read_stopped view names w stop.Absent read before mid after status passes is files printed later rose told = stopped names (w read) stop.Absent before mid after status (ap w is ∙ passes stop.Absent) (omega arith) (λ e. absurd (omega (arith, e))) files printed later told
 read_stopped view names w stop.TooLong read before mid after status passes is files printed later rose told = stopped names (w read) stop.TooLong before mid after status (ap w is ∙ passes stop.TooLong) (omega arith) (λ e. absurd (omega (arith, e))) files printed later told
 read_stopped view names w (stop.Capture at what) read before mid after status passes is files printed later rose told = stopped names (w read) (stop.Capture at what) before mid after status (ap w is ∙ passes (stop.Capture at what)) (omega arith) (λ e. absurd (omega (arith, e))) files printed later told
@@ -88,30 +105,10 @@ pub send_stopped : (names : Named) (why : Stop) (source : Source) (before mid af
     → (why ≡ stop.ReadFailed → Rose before.faults mid.faults) → IsTold names why mid after status → IsAnswer names (work_of (send names) source) before after (record { status = status; report = None })
 send_stopped names why source before mid after status read files printed later rose told = read_stopped frames_in names (as_work names) why (read_of names source) before mid after status (λ e. refl) read files printed later rose told
 
-abbrev as_replay : Result (List ℕ) Stop → Result Work Stop
+abbrev pub as_replay : Result (List ℕ) Stop → Result Work Stop
 as_replay read = read >>= λ bytes. Ok (tracing bytes)
 
 -- `trace` stopped where its schedule was to be read
 pub trace_stopped : (file : List ℕ) (why : Stop) (source : Source) (before mid after : Seen) (status : ℕ) → IsRead bytes_of (Err why) (file_at 1048576 (source 0 file)) → mid.files ≡ before.files → mid.printed ≡ before.printed → before.faults ≤ mid.faults
     → (why ≡ stop.ReadFailed → Rose before.faults mid.faults) → IsTold (names_asked (trace file)) why mid after status → IsAnswer (names_asked (trace file)) (work_of (trace file) source) before after (record { status = status; report = None })
 trace_stopped file why source before mid after status read files printed later rose told = read_stopped bytes_of (names_asked (trace file)) as_replay why (file_at 1048576 (source 0 file)) before mid after status (λ e. refl) read files printed later rose told
-
--- `trace` answers what the replay of its schedule does, where only that was read before
-pub trace_read : (file : List ℕ) (source : Source) (bytes : List ℕ) (before mid after : Seen) (status : ℕ) → file_at 1048576 (source 0 file) ≡ Ok bytes → mid.files ≡ before.files → mid.printed ≡ before.printed → before.faults ≤ mid.faults
-    → IsAnswer (names_asked (trace file)) (Ok (tracing bytes)) mid after (record { status = status; report = None }) → IsAnswer (names_asked (trace file)) (work_of (trace file) source) before after (record { status = status; report = None })
-trace_read file source bytes before mid after status is files printed later h =
-    let w : work_of (trace file) source ≡ Ok (tracing bytes) = ap as_replay is in
-    subst (λ (v : Result Work Stop). IsAnswer (names_asked (trace file)) v before after (record { status = status; report = None })) (sym w) (record {
-      status = h.status;
-      later = omega (arith, h.later);
-      failed = λ five. risen_late before.faults mid.faults after.faults later (h.failed five);
-      good = tt;
-      there = h.there;
-      done = λ zero. tt;
-      left = tt;
-      untouched = λ none. h.untouched none ∙ files;
-      told = λ b c. elim (h.told b c) [
-        | inl rose ↦ inl (risen_late before.faults mid.faults after.faults later rose)
-        | inr line ↦ inr (subst (λ (p : Option (List ℕ)). BothTold p after.printed (λ (was now : List ℕ). (text : List ℕ) × IsReplay bytes text status × (now ≡ was ++ text))) printed line)
-      ];
-    })

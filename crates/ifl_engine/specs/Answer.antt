@@ -10,18 +10,12 @@ use Rattle.ifl_engine.specs.declared.stop.Stop.{Stop}
 use Rattle.ifl_engine.specs.declared.words.WordFault.{WordFault}
 use Rattle.ifl_engine.specs.Words.{Named, Asked}
 use Rattle.ifl_engine.specs.Report.{IsGood}
-use Rattle.ifl_engine.specs.Texts.{order_text_of, counter_text_of}
+use Rattle.ifl_engine.specs.Left.{IsWritten, IsStanding}
+use Rattle.ifl_engine.specs.Seen.{Seen}
+use Rattle.ifl_engine.specs.CutShort.{IsCutShort}
+use Rattle.ifl_engine.specs.Texts.{counter_text_of}
 use Rattle.ifl_engine.specs.Tracing.{IsReplay}
 use Rattle.ifl_engine.specs.Wanted.{Source, Work, sending, tracing, status_of, line_of}
-
--- what is seen of a host at a moment
-pub record Seen : Type 0 where
-  pub faults : ℕ
-  pub files : Option Files
-  pub printed : Option (List ℕ)
-
-abbrev pub seen : {H : Type 0} → (H → ℕ) → (H → Option Files) → (H → Option (List ℕ)) → H → Seen
-seen faults files printed h = record { faults = faults h; files = files h; printed = printed h }
 
 -- for the files that the host tells, or for some where it does not tell them
 abbrev pub ForFiles : Option Files → (Source → Type 0) → Type 0
@@ -59,17 +53,6 @@ abbrev pub IsByWords : Result Asked WordFault → ℕ → Type 0
 IsByWords (Ok command) status = status ≢ 1
 IsByWords (Err e) status = (status ≡ 1) ⊎ (status ≡ 6)
 
--- the wire file and the order file hold exactly these bytes, and every other file is as before
-pub record IsWritten (names : Named) (r : Report) (old new : Files) : Type 0 where
-  pub wire : held new names.wire ≡ Some r.wire
-  pub order : held new names.order ≡ Some (order_text_of r.order r.away)
-  pub others : (q : List ℕ) → q ≢ names.wire → q ≢ names.order → held new q ≡ held old q
-
--- after a stop of writing: the wire file stands whole, or the order file was not touched; and no other file has changed
-pub record IsStanding (names : Named) (r : Report) (old new : Files) : Type 0 where
-  pub in_turn : (held new names.wire ≡ Some r.wire) ⊎ (held new names.order ≡ held old names.order)
-  pub others : (q : List ℕ) → q ≢ names.wire → q ≢ names.order → held new q ≡ held old q
-
 pub record IsDone (names : Named) (r : Report) (before after : Seen) : Type 0 where
   pub files : BothTold before.files after.files (IsWritten names r)
   pub printed : BothTold before.printed after.printed (λ was now. now ≡ was ++ counter_text_of r.plain)
@@ -97,3 +80,5 @@ pub record IsAnswer (names : Named) (work : Result Work Stop) (before after : Se
   pub untouched : IsNone result.report → after.files ≡ before.files
   -- a fault line is printed
   pub told : result.status ≢ 5 → result.status ≢ 6 → Rose before.faults after.faults ⊎ Tells names work result.status before.printed after.printed
+  -- what was printed by a run that was cut short
+  pub stopped : result.status ≢ 0 → result.status ≢ 9 → IsCutShort names work before after result

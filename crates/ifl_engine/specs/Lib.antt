@@ -6,6 +6,9 @@ pub mod Report
 pub mod Texts
 pub mod Tracing
 pub mod Wanted
+pub mod Seen
+pub mod Left
+pub mod CutShort
 pub mod Answer
 pub mod PlainList
 pub mod Steps

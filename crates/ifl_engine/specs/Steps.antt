@@ -1,9 +1,7 @@
 -- What the parts of a run do, each on its own.
-use Rattle.std.specs.Prelude.{◌≡◌, ◌≢◌, Some, ◌≤◌, ◌*◌, ◌⊎◌, ℕ, List, ◌++◌, length, Result, Ok, Err}
+use Rattle.std.specs.Prelude.{◌≡◌, ◌≢◌, Some, ◌≤◌, ◌*◌, ◌⊎◌, ℕ, List, ◌++◌, length, take, Result, Ok, Err}
 use Rattle.std.specs.List.{AllByRecursion}
-use Rattle.ifl_outside.specs.Files.{Files, held, SameBut}
 use Rattle.ifl_outside.specs.Told.{BothTold}
-use Rattle.ifl_engine.specs.declared.report.Report.{Report}
 use Rattle.ifl_outside.specs.Causes.{Rose}
 use Rattle.ifl_outside.specs.declared.fault.HostError.{HostError}
 use Rattle.ifl_outside.specs.declared.fault.HostError.TheVariants as host
@@ -13,7 +11,7 @@ use Rattle.ifl_engine.specs.declared.stop.Stop.{Stop}
 use Rattle.ifl_engine.specs.declared.stop.Stop.TheVariants as stop
 use Rattle.ifl_engine.specs.Words.{Named}
 use Rattle.ifl_engine.specs.Wanted.{status_of, line_of}
-use Rattle.ifl_engine.specs.Answer.{Seen, IsWritten}
+use Rattle.ifl_engine.specs.Seen.{Seen}
 
 -- what a capture of a file within the limit has
 pub record IsSmall (frames : List Frame) : Type 0 where
@@ -49,10 +47,5 @@ pub record IsTold (names : Named) (why : Stop) (before after : Seen) (answer : �
   pub later : before.faults ≤ after.faults
   pub files : after.files ≡ before.files
   pub line : (answer ≡ 6) ⊎ (Rose before.faults after.faults ⊎ BothTold before.printed after.printed (λ was now. now ≡ was ++ line_of names why))
-
--- what a stop of writing left: the earlier writes stand whole, no later one was made, and no other file has changed
-abbrev pub IsLeft : Named → Report → Stop → Files → Files → Type 0
-IsLeft names r stop.WireFailed old new = SameBut names.wire old new
-IsLeft names r stop.OrderFailed old new = (names.wire ≢ names.order → held new names.wire ≡ Some r.wire) × ((q : List ℕ) → q ≢ names.wire → q ≢ names.order → held new q ≡ held old q)
-IsLeft names r stop.PrintFailed old new = IsWritten names r old new
-IsLeft names r e old new = (q : List ℕ) → q ≢ names.wire → q ≢ names.order → held new q ≡ held old q
+  -- never more than its beginning
+  pub begun : BothTold before.printed after.printed (λ was now. (k : ℕ) × (now ≡ was ++ take k (line_of names why)))

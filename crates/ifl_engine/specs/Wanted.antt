@@ -92,16 +92,17 @@ status_of stop.OrderFailed = 5
 status_of stop.PrintFailed = 5
 status_of stop.Memory = 6
 
-abbrev pub word_fault_name : WordFault → List ℕ
-word_fault_name fault.NoCommand = codes "no command"
-word_fault_name fault.UnknownCommand = codes "unknown command"
-word_fault_name fault.Refused = codes "refused"
-word_fault_name fault.Names = codes "names"
-word_fault_name fault.Memory = []
+-- the fault line of the words
+abbrev pub word_line : WordFault → List ℕ
+word_line fault.NoCommand = codes "words: no command\n"
+word_line fault.UnknownCommand = codes "words: unknown command\n"
+word_line fault.Refused = codes "words: refused\n"
+word_line fault.Names = codes "words: names\n"
+word_line fault.Memory = codes "memory\n"
 
 -- the fault line: what stopped the run, with the name as given, and where and why a file is no capture
 abbrev pub line_of : Named → Stop → List ℕ
-line_of names (stop.Words f) = codes "words: " ++ (word_fault_name f ++ codes "\n")
+line_of names (stop.Words f) = word_line f
 line_of names stop.Absent = codes "absent: " ++ (names.file ++ codes "\n")
 line_of names stop.TooLong = codes "limit: " ++ (names.file ++ codes "\n")
 line_of names (stop.Capture at why) = codes "capture: " ++ (names.file ++ (codes " at " ++ (decimal at ++ (codes ": " ++ (why_name why ++ codes "\n")))))

@@ -1,8 +1,8 @@
 ghost use Rattle.std.specs.Prelude.{◌≡◌, IfOk};
 ghost use Rattle.std.specs.String.{string_bytes};
 ghost use Rattle.ifl_engine.specs.Read.{names_of};
-ghost use Rattle.ifl_engine.specs.Wanted.{line_of, word_fault_name};
-ghost use Rattle.ifl_engine.specs.Answer.{seen};
+ghost use Rattle.ifl_engine.specs.Wanted.{line_of, word_line};
+ghost use Rattle.ifl_engine.specs.Seen.{seen};
 ghost use Rattle.ifl_engine.specs.Steps.{IsTold};
 
 use crate::stop::{Stop, status};
@@ -10,16 +10,16 @@ use crate::words::{SendWords, WordFault};
 use ifl_outside::{Host, HostError};
 use std::alloc::{AllocError, Global};
 
-/// The text of a fault of the words.
-fn word_fault_name(f: WordFault) -> &'static str
-    ensures { result.now ≡ word_fault_name f }
+/// The fault line of the words.
+fn word_line(f: WordFault) -> &'static str
+    ensures { result.now ≡ word_line f }
 {
     match f {
-        WordFault::NoCommand => "no command",
-        WordFault::UnknownCommand => "unknown command",
-        WordFault::Refused => "refused",
-        WordFault::Names => "names",
-        WordFault::Memory => "",
+        WordFault::NoCommand => "words: no command\n",
+        WordFault::UnknownCommand => "words: unknown command\n",
+        WordFault::Refused => "words: refused\n",
+        WordFault::Names => "words: names\n",
+        WordFault::Memory => "memory\n",
     }
 }
 
@@ -34,10 +34,7 @@ fn fault_line(
     ensures { IfOk result (λ t. string_bytes t ≡ line_of (record { wire = wire.now; order = order.now; file = file.now }) stop) }
 {
     match stop {
-        Stop::Words(f) => {
-            let why = word_fault_name(f);
-            format!(in alloc; "words: {why}\n")
-        }
+        Stop::Words(f) => String::from_str(alloc, word_line(f)),
         Stop::Absent => format!(in alloc; "absent: {file}\n"),
         Stop::TooLong => format!(in alloc; "limit: {file}\n"),
         Stop::Capture { at, why } => {

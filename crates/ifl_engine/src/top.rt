@@ -6,7 +6,10 @@ ghost use Rattle.ifl_engine.specs.Words.{asked, send};
 ghost use Rattle.ifl_engine.specs.Read.{names_of};
 ghost use Rattle.ifl_engine.specs.Report.{IsGood};
 ghost use Rattle.ifl_engine.specs.Wanted.{sending, wanted, work_of, names_in};
-ghost use Rattle.ifl_engine.specs.Answer.{ForFiles, IsAnswer, IsDone, IfSending, IsReported, IsStatus, IsCalledFor, IsByWords, IsStanding, Tells, seen};
+ghost use Rattle.ifl_engine.specs.Seen.{seen};
+ghost use Rattle.ifl_engine.specs.Left.{IsStanding};
+ghost use Rattle.ifl_engine.specs.CutShort.{IsCutShort};
+ghost use Rattle.ifl_engine.specs.Answer.{ForFiles, IsAnswer, IsDone, IfSending, IsReported, IsStatus, IsCalledFor, IsByWords, Tells};
 ghost use Rattle.ifl_engine.specs.Steps.{IsSmall};
 
 use crate::plain::report_of;
@@ -138,6 +141,10 @@ pub fn run<R: Threads + Wait, H: Host, G: Gate>(
 
     // Without a report no file was written.
     ensures untouched { IsNone result.report → H.files host.new ≡ H.files host.old }
+
+    // A run that was stopped printed the beginning of its ending, if that print failed, and behind it its fault line.
+    ensures stopped { result.status ≢ 0 → result.status ≢ 9 → ForFiles (H.files host.old) (λ source. IsCutShort (names_in (map string_bytes words.now)) (wanted (map string_bytes words.now) source)
+        (seen H.faults H.files H.printed host.old) (seen H.faults H.files H.printed host.new) result) }
 
     // Where the host has not failed, a refusal is told by its line.
     ensures told { ¬ Rose (H.faults host.old) (H.faults host.new) → result.status ≢ 6 →

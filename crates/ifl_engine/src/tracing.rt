@@ -5,7 +5,9 @@ ghost use Rattle.ifl_ringcore.specs.Texts.{fault_line};
 ghost use Rattle.ifl_engine.specs.Words.{trace, asked};
 ghost use Rattle.ifl_engine.specs.Tracing.{IsReplay};
 ghost use Rattle.ifl_engine.specs.Wanted.{tracing, names_asked, names_or_none, only_trace, work_of, wanted_by};
-ghost use Rattle.ifl_engine.specs.Answer.{ForFiles, IsAnswer, IsStatus, IsCalledFor, IsByWords, Tells, seen};
+ghost use Rattle.ifl_engine.specs.Seen.{seen};
+ghost use Rattle.ifl_engine.specs.CutShort.{IsCutShort};
+ghost use Rattle.ifl_engine.specs.Answer.{ForFiles, IsAnswer, IsStatus, IsCalledFor, IsByWords, Tells};
 
 use crate::reading::read_file;
 use crate::stop::Stop;
@@ -122,6 +124,10 @@ pub fn run_trace<H: Host>(alloc: Global, words: &[String], host: &mut H) -> u8
 
     // No file is written.
     ensures untouched { H.files host.new ≡ H.files host.old }
+
+    // A call that was stopped printed the beginning of its replay, if that print failed, and behind it its fault line.
+    ensures stopped { result ≢ 0 → result ≢ 9 → ForFiles (H.files host.old) (λ source. IsCutShort (names_or_none (only_trace (asked (map string_bytes words.now)))) (wanted_by (only_trace (asked (map string_bytes words.now))) source)
+        (seen H.faults H.files H.printed host.old) (seen H.faults H.files H.printed host.new) (record { status = result; report = None })) }
 
     // Where the host has not failed, the replay was printed, or the line of a refusal.
     ensures told { ¬ Rose (H.faults host.old) (H.faults host.new) → result ≢ 6 →

@@ -1,9 +1,13 @@
-ghost use Rattle.std.specs.Prelude.{◌≡◌, ◌≢◌, ◌≤◌, OnOk, IfErr};
+ghost use Rattle.std.specs.Prelude.{◌≡◌, ◌≢◌, ◌≤◌, ◌++◌, ℕ, List, OnOk, IfErr};
 ghost use Rattle.std.specs.String.{string_bytes};
 ghost use Rattle.ifl_outside.specs.Told.{BothTold};
 ghost use Rattle.ifl_engine.specs.Read.{names_of};
-ghost use Rattle.ifl_engine.specs.Answer.{IsDone, IsStanding, seen};
-ghost use Rattle.ifl_engine.specs.Steps.{IsHostStop, IsLeft, stop_by};
+ghost use Rattle.ifl_engine.specs.Seen.{seen};
+ghost use Rattle.ifl_engine.specs.Left.{IsLeft, IsStanding};
+ghost use Rattle.ifl_engine.specs.CutShort.{IsBegun};
+ghost use Rattle.ifl_engine.specs.Texts.{counter_text_of};
+ghost use Rattle.ifl_engine.specs.Answer.{IsDone};
+ghost use Rattle.ifl_engine.specs.Steps.{IsHostStop, stop_by};
 
 use crate::report::Report;
 use crate::stop::Stop;
@@ -36,6 +40,8 @@ pub fn put_out<H: Host>(
     ensures later { H.faults host.old ≤ H.faults host.new }
     ensures stop { IfErr result (λ e. IsHostStop e (H.faults host.old) (H.faults host.new)) }
     ensures left { IfErr result (λ e. BothTold (H.files host.old) (H.files host.new) (IsLeft (names_of names.now) report.now e)) }
+    ensures begun { IfErr result (λ e. BothTold (H.printed host.old) (H.printed host.new)
+        (λ was now. (part : List ℕ) × IsBegun e (λ text. text ≡ counter_text_of report.now.plain) part × (now ≡ was ++ part))) }
     ensures standing { BothTold (H.files host.old) (H.files host.new) (IsStanding (names_of names.now) report.now) }
 {
     let order = match order_text(alloc, report) {

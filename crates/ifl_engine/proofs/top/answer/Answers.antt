@@ -1,7 +1,7 @@
 use Rattle.std.proofs.Common.{map}
 use Rattle.std.specs.String.{string_bytes}
 use Rattle.ifl_engine.specs.Read.{names_of}
-use Rattle.ifl_engine.specs.Answer.{seen}
+use Rattle.ifl_engine.specs.Seen.{seen}
 use Rattle.ifl_engine.proofs.ReadLaws.{for_any}
 use Rattle.ifl_engine.specs.Words.{asked}
 use Rattle.ifl_engine.proofs.Apart.{apart}

@@ -3,7 +3,7 @@ use Rattle.std.specs.String.{string_bytes}
 use Rattle.ifl_engine.specs.declared.words.WordFault.TheVariants as fault
 use Rattle.ifl_engine.specs.Words.{asked}
 use Rattle.ifl_engine.specs.Wanted.{only_trace}
-use Rattle.ifl_engine.specs.Answer.{seen}
+use Rattle.ifl_engine.specs.Seen.{seen}
 use Rattle.ifl_engine.proofs.ReadLaws.{for_any}
 use Rattle.ifl_engine.proofs.Refusing.{refused_by_words, GivesWords-only_trace}
 use Rattle.ifl_engine.proofs.tracing.answer_trace.Goals as goal
