@@ -1,5 +1,5 @@
 -- A run whose writes or whose print did not all succeed.
-use Rattle.std.proofs.Common.{◌≡◌, ℕ, ◌≤◌, ◌⊎◌, List, ◌++◌, take, Option, Some, Result, Ok, refl, sym, ◌∙◌, arith, inl, inr}
+use Rattle.std.proofs.Common.{◌≡◌, ℕ, ◌≤◌, ◌⊎◌, List, ◌++◌, take, Option, Some, Ok, refl, sym, ◌∙◌, arith, inl, inr}
 use Rattle.ifl_outside.specs.Told.{BothTold}
 use Rattle.ifl_outside.specs.Causes.{Rose}
 use Rattle.ifl_pcap.specs.declared.frame.Frame.{Frame}
@@ -12,7 +12,7 @@ use Rattle.ifl_engine.specs.Texts.{counter_text_of}
 use Rattle.ifl_engine.specs.Wanted.{sending, status_of}
 use Rattle.ifl_engine.specs.Seen.{Seen}
 use Rattle.ifl_engine.specs.Left.{IsLeft, IsStanding}
-use Rattle.ifl_engine.specs.CutShort.{IsEnding, IsOfPrint}
+use Rattle.ifl_engine.specs.CutShort.{IsOfPrint}
 use Rattle.ifl_engine.specs.Answer.{IsAnswer}
 use Rattle.ifl_engine.specs.Steps.{IsHostStop, IsTold}
 use Rattle.ifl_engine.proofs.CutShort.{Begins, told_map, cut_short}
@@ -28,7 +28,7 @@ host_status (stop.Words f) a b h = absurd h
 host_status stop.ReadFailed a b h = absurd h
 host_status stop.Absent a b h = absurd h
 host_status stop.TooLong a b h = absurd h
-host_status stop.Capture a b h = absurd h
+host_status (stop.Capture at why) a b h = absurd h
 host_status stop.WireFailed a b h = inl (refl, h)
 host_status stop.OrderFailed a b h = inl (refl, h)
 host_status stop.PrintFailed a b h = inl (refl, h)

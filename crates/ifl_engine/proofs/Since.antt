@@ -1,7 +1,6 @@
 -- What a call does to its host is what it does from an earlier moment on, if the host was only read since.
 use Rattle.std.proofs.Common.{◌≡◌, ℕ, ◌≤◌, List, [], ◌∷◌, Option, Some, None, Result, Ok, sym, ap, subst, ◌∙◌, arith, inl, inr}
 use Rattle.std.specs.Prelude.{IfSome}
-use Rattle.ifl_outside.specs.Causes.{Rose}
 use Rattle.ifl_pcap.specs.declared.frame.Frame.{Frame}
 use Rattle.ifl_engine.specs.declared.report.Report.{Report}
 use Rattle.ifl_engine.specs.declared.report.Finished.{Finished}

@@ -3,11 +3,9 @@ use Rattle.std.proofs.Common.{◌≡◌, ◌≢◌, ℕ, ◌<◌, ◌≤◌, ◌
 use Rattle.ifl_outside.specs.Told.{BothTold}
 use Rattle.ifl_outside.specs.Causes.{Rose}
 use Rattle.ifl_pcap.specs.declared.frame.Frame.{Frame}
-use Rattle.ifl_pcap.specs.declared.frame.Capture.{Capture}
 use Rattle.ifl_engine.specs.declared.stop.Stop.{Stop}
 use Rattle.ifl_engine.specs.declared.stop.Stop.TheVariants as stop
 use Rattle.ifl_engine.specs.Words.{Named, send, trace}
-use Rattle.ifl_engine.specs.Tracing.{IsReplay}
 use Rattle.ifl_engine.specs.Wanted.{Source, Work, sending, tracing, ◌>>=◌, file_at, read_of, work_of, status_of, line_of, names_asked}
 use Rattle.ifl_engine.specs.Seen.{Seen}
 use Rattle.ifl_engine.specs.Answer.{CallsFor, IsStatus, Tells, IsAnswer}
@@ -32,7 +30,7 @@ early w (stop.Words f) other = tt
 early w stop.ReadFailed other = tt
 early w stop.Absent other = tt
 early w stop.TooLong other = tt
-early w stop.Capture other = tt
+early w (stop.Capture at why) other = tt
 early w stop.WireFailed other = absurd (other refl)
 early w stop.OrderFailed other = absurd (other refl)
 early w stop.PrintFailed other = absurd (other refl)
