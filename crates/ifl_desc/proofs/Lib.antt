@@ -1,0 +1,11 @@
+pub mod Slots
+pub mod Steps
+pub mod Allowed
+pub mod Turning
+pub mod Rows
+pub mod Racks
+pub mod OwnSteps
+pub mod AfterSteps
+pub mod Beginning
+pub mod Ending
+pub mod TurnSteps

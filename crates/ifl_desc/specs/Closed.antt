@@ -1,0 +1,56 @@
+-- What a contract sees of a ring that was closed: the whole list with its five lengths.
+use Rattle.std.specs.Prelude.{◌≡◌, ℕ, ◌+◌, ◌<◌, ◌≤◌, List, ◌++◌, length, drop}
+use mathlib.Core.List.{IsPrefix}
+use Rattle.ifl_desc.specs.declared.desc.Desc.{Desc}
+use Rattle.ifl_desc.specs.declared.history.Side.TheVariants.{Driver, Device}
+use Rattle.ifl_desc.specs.declared.history.Event.{Event}
+use Rattle.ifl_desc.specs.History.{sent, known}
+use Rattle.ifl_desc.specs.Frames.{IsShort}
+use Rattle.ifl_desc.specs.Rule.{IsLawful}
+use Rattle.ifl_desc.specs.Ends.{DriverSees, DeviceSees}
+
+-- the size, the whole history, what was posted and never rung, and how many were reclaimed and fetched
+pub record ClosedSees : Type 0 where
+  pub size : ℕ
+  pub history : List Event
+  pub pending : List Desc
+  pub back : ℕ
+  pub fetched : ℕ
+
+-- how many were returned, rung and posted
+abbrev pub all_returned : ClosedSees → ℕ
+all_returned c = length (sent Device c.history)
+
+abbrev pub all_rung : ClosedSees → ℕ
+all_rung c = length (sent Driver c.history)
+
+abbrev pub all_posted : ClosedSees → ℕ
+all_posted c = all_rung c + length c.pending
+
+-- the whole list: the returned ones as the device completed them, the others as they were posted
+abbrev pub whole_list : ClosedSees → List Desc
+whole_list c = sent Device c.history ++ (drop (all_returned c) (sent Driver c.history) ++ c.pending)
+
+-- what was posted and not reclaimed
+abbrev pub left_of : ClosedSees → List Desc
+left_of c = drop c.back (whole_list c)
+
+-- back <= returned = fetched <= rung <= posted, fewer than size are left, and the history is lawful
+pub record IsClosed (c : ClosedSees) : Type 0 where
+  pub lawful : IsLawful c.size c.history
+  pub short : IsShort 0 c.pending
+  pub behind : c.back ≤ all_returned c
+  pub done : c.fetched ≡ all_returned c
+  pub within : all_returned c ≤ all_rung c
+  pub room : all_posted c < c.back + c.size
+
+-- the closed ring stands for all that the two ends did, and for nothing else
+pub record Closes (d : DriverSees) (v : DeviceSees) (c : ClosedSees) : Type 0 where
+  pub size : c.size ≡ d.ring.slots
+  pub of_driver : IsPrefix d.seen c.history
+  pub of_device : IsPrefix v.seen c.history
+  pub rung : sent Driver c.history ≡ sent Driver d.seen
+  pub returned : sent Device c.history ≡ sent Device v.seen
+  pub pending : c.pending ≡ d.pending
+  pub back : c.back ≡ d.back
+  pub fetched : c.fetched ≡ v.fetched

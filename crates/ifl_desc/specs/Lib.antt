@@ -1,0 +1,10 @@
+pub mod History
+pub mod Frames
+pub mod Rule
+pub mod Ends
+pub mod Calls
+pub mod Closed
+pub mod Plays
+pub mod Rack
+pub mod Turning
+pub mod Turns
