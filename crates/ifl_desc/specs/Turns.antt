@@ -16,13 +16,12 @@ pub record TurnState (O : Type 0) : Type 0 where
   pub held : Bool
   pub looks : ℕ
 
-module _ {E O : Type 0} where
-  -- the slot is out, and empty, exactly with the seat that has the turn
-  abbrev pub slots_of : Bool → List (ℕ × Option E)
-  slots_of true = (0, None) ∷ []
-  slots_of false = []
+-- the slot is out, and empty, exactly with the seat that has the turn
+abbrev pub slots_of : {E : Type 0} → Bool → List (ℕ × Option E)
+slots_of true = (0, None) ∷ []
+slots_of false = []
 
-  -- what every seat keeps
-  pub record IsTurnSeat (me : Me (Option E) (TurnView O)) : Type 0 where
-    pub part : 0 < me.0.part
-    pub slots : me.1 ≡ slots_of me.0.holds
+-- what every seat keeps
+pub record IsTurnSeat {E O : Type 0} (me : Me (Option E) (TurnView O)) : Type 0 where
+  pub part : 0 < me.0.part
+  pub slots : me.1 ≡ slots_of me.0.holds

@@ -1,12 +1,17 @@
-use Rattle.std.proofs.Common.{◌≡◌, ℕ, ◌<◌, ◌∙◌, ap, sym, arith, subst, refl, ◌∷◌}
+use Rattle.std.proofs.Common.{◌≡◌, ℕ, ◌<◌, ◌-◌, ◌/◌, ◌∙◌, ap, sym, arith, subst, refl, ◌∷◌, List, [], true, false}
 use Rattle.std.specs.Prelude.{Some}
 use Rattle.atomic_table.specs.Table.{rest}
+use Rattle.ifl_desc.specs.Turns.{TurnState, TurnstileId, slots_of}
 use Rattle.ifl_desc.proofs.TurnSteps.{gives_turn}
 use Rattle.ifl_desc.proofs.turnstile.Turnstile.give_turn.Goals as goal
 
 pub store-requires : goal.store-requires
-store-requires g c = let ex = c.exchange.ensures.3 in let v = ap (λ m. m.0) ex in (
-  c.exchange.ensures.0 ∙ c.requires.own,
-  (let w = c.args.self.now.sized.0 in omega arith),
-  gives_turn _ _ _ _ _ c.args.e c.args.self.now.sized.1 (ap (λ z. z.holds) v ∙ c.requires.held.0) (ap (λ m. m.1) ex ∙ ap (λ z. (0, Some c.args.e) ∷ rest z) c.requires.held.1) (ap (λ z. z.origin) v ∙ c.requires.origin),
-)
+store-requires g c =
+    let own = c.requires.own ∙ sym c.self.view_is in
+    let holds = ap (λ (z : TurnState _). z.held) c.seat.view_is ∙ c.requires.held in
+    let ex = c.exchange.ensures.3 in let v = ap (λ m. m.0) ex in (
+      c.exchange.ensures.0 ∙ ap (λ (z : TurnState _). z.turnstile.table) c.seat.view_is ∙ ap (λ (z : TurnstileId _). z.table) own,
+      (let w = c.self.invariant.0 in omega arith),
+      gives_turn _ _ _ _ _ c.args.e c.self.invariant.1 (ap (λ z. z.holds) v ∙ holds) (ap (λ m. m.1) ex ∙ ap (λ z. (0, Some c.args.e) ∷ rest z) (c.seat.invariant.slots ∙ ap slots_of holds))
+      (ap (λ z. z.origin) v ∙ ap (λ (z : TurnState _). z.turnstile.origin) c.seat.view_is ∙ ap (λ (z : TurnstileId _). z.origin) c.requires.own ∙ c.requires.origin),
+    )

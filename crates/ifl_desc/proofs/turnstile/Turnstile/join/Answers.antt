@@ -1,6 +1,13 @@
-use Rattle.std.proofs.Common.{◌≡◌, ℕ, ◌<◌, ◌∙◌, arith}
+use Rattle.std.proofs.Common.{◌≡◌, ℕ, ◌<◌, ◌-◌, ◌/◌, ◌∙◌, ap, sym, arith, subst, refl, ◌∷◌, List, [], true, false}
+use Rattle.ifl_desc.specs.Turns.{TurnState, TurnstileId, slots_of}
 use Rattle.ifl_desc.proofs.TurnSteps.{adds}
 use Rattle.ifl_desc.proofs.turnstile.Turnstile.join.Goals as goal
 
 pub join_seat-requires : goal.join_seat-requires
-join_seat-requires g c = let f = c.requires.free in (c.requires.own.0, c.requires.own.1, f.3, (let w = c.args.self.now.sized.0 in omega arith), adds _ _ _ _ _ _ f.0 f.1 f.2)
+join_seat-requires g c = let f = c.requires.free in let lacks = ap (λ (z : TurnState _). z.held) c.other.view_is ∙ f.1 in (
+  ap (λ (z : TurnState _). z.turnstile.table) c.seat.view_is ∙ ap (λ (z : TurnstileId _). z.table) (c.requires.own.0 ∙ sym c.self.view_is),
+  ap (λ (z : TurnState _). z.turnstile.table) c.other.view_is ∙ ap (λ (z : TurnstileId _). z.table) (c.requires.own.1 ∙ sym c.self.view_is),
+  c.other.invariant.slots ∙ ap slots_of lacks,
+  (let w = c.self.invariant.0 in omega arith),
+  adds _ _ _ _ _ _ (ap (λ (z : TurnState _). z.held) c.seat.view_is ∙ f.0) c.seat.invariant.part lacks,
+)

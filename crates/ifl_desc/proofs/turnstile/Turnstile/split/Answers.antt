@@ -1,6 +1,11 @@
-use Rattle.std.proofs.Common.{◌≡◌, ℕ, ◌<◌, ◌∙◌, arith}
+use Rattle.std.proofs.Common.{◌≡◌, ℕ, ◌<◌, ◌-◌, ◌/◌, ◌∙◌, ap, sym, arith, subst, refl, ◌∷◌, List, [], true, false}
+use Rattle.ifl_desc.specs.Turns.{TurnState, TurnstileId, slots_of}
 use Rattle.ifl_desc.proofs.TurnSteps.{halves}
 use Rattle.ifl_desc.proofs.turnstile.Turnstile.split.Goals as goal
 
-pub split_seat-requires : goal.split_seat-requires
-split_seat-requires g c = (c.requires.own, (let w = c.args.self.now.sized.0 in omega arith), halves _ _ _ _ c.requires.free c.requires.part)
+pub split_seat-other-requires : goal.split_seat-other-requires
+split_seat-other-requires g c = (
+  ap (λ (z : TurnState _). z.turnstile.table) c.seat.view_is ∙ ap (λ (z : TurnstileId _). z.table) (c.requires.own ∙ sym c.self.view_is),
+  (let w = c.self.invariant.0 in omega arith),
+  halves _ _ _ _ (ap (λ (z : TurnState _). z.held) c.seat.view_is ∙ c.requires.free) (let e = ap (λ (z : TurnState _). z.part) c.seat.view_is in let p = c.requires.part in omega arith),
+)

@@ -1,12 +1,19 @@
-use Rattle.std.proofs.Common.{◌≡◌, ℕ, ◌<◌, ◌∙◌, ap, sym, arith, subst, refl, ◌∷◌}
+use Rattle.std.proofs.Common.{◌≡◌, ℕ, ◌<◌, ◌-◌, ◌/◌, ◌∙◌, ap, sym, arith, subst, refl, ◌∷◌, List, [], true, false}
 use Rattle.std.specs.Prelude.{Some}
 use Rattle.atomic_table.specs.Table.{rest}
+use Rattle.ifl_desc.specs.Turns.{TurnState, TurnstileId, slots_of}
 use Rattle.ifl_desc.proofs.TurnSteps.{tries}
 use Rattle.ifl_desc.proofs.turnstile.Turnstile.try_turn.Goals as goal
 
 pub compare_exchange-seen-requires : goal.compare_exchange-seen-requires
-compare_exchange-seen-requires g c = (c.requires.own, (let w = c.args.self.now.sized.0 in omega arith), tries _ _ _ _ _ c.requires.free.0 c.requires.free.2)
+compare_exchange-seen-requires g c = (
+  ap (λ (z : TurnState _). z.turnstile.table) c.seat.view_is ∙ ap (λ (z : TurnstileId _). z.table) (c.requires.own ∙ sym c.self.view_is),
+  (let w = c.self.invariant.0 in omega arith),
+  tries _ _ _ _ _ (ap (λ (z : TurnState _). z.held) c.seat.view_is ∙ c.requires.free) c.seat.invariant.part,
+)
 
 pub exchange-requires : goal.exchange-requires
-exchange-requires g c = let got = c.compare_exchange-seen.ensures.2.0 (omega arith) in
-    (c.compare_exchange-seen.ensures.0 ∙ c.requires.own, (Some got.1.0, got.1.1 ∙ ap (λ z. (0, Some got.1.0) ∷ z) (sym (ap rest got.1.1))))
+exchange-requires g c = let got = c.compare_exchange-seen.ensures.2.0 (omega arith) in (
+  c.compare_exchange-seen.ensures.0 ∙ ap (λ (z : TurnState _). z.turnstile.table) c.seat.view_is ∙ ap (λ (z : TurnstileId _). z.table) (c.requires.own ∙ sym c.self.view_is),
+  (Some got.1.0, got.1.1 ∙ ap (λ z. (0, Some got.1.0) ∷ z) (sym (ap rest got.1.1))),
+)
