@@ -9,3 +9,4 @@ pub mod AfterSteps
 pub mod Beginning
 pub mod Ending
 pub mod TurnSteps
+pub mod PortSteps

@@ -8,3 +8,4 @@ pub mod Plays
 pub mod Rack
 pub mod Turning
 pub mod Turns
+pub mod Port

@@ -5,8 +5,10 @@ mod closed;
 mod desc;
 mod history;
 mod plays;
+mod port;
 mod rack;
 mod ring;
+mod signals;
 mod turns;
 mod turnstile;
 
@@ -16,6 +18,7 @@ pub use history::{Event, IsSide, OfDevice, OfDriver, Role, Side, View};
 pub use plays::{
     DeviceRetires, DeviceSaw, DriverSaw, Fills, Gathers, Hearing, Notes, Parts, Unites,
 };
+pub use port::{Port, PortReader, PortState, PortWriter};
 pub use rack::{EndSeat, Rack};
 pub use ring::DescRing;
 pub use turnstile::{Kept, Taken, Turnstile, TurnSeat};

@@ -1,0 +1,16 @@
+use Rattle.std.proofs.Common.{◌≡◌, ℕ, ◌<◌, ◌∙◌, ap, sym, arith, subst, refl, ◌∷◌, List, []}
+use Rattle.atomic_table.specs.Table.{Me, step, Allows}
+use mathlib.Core.Option.{none}
+use Rattle.ifl_desc.specs.declared.signals.PortView.{PortView}
+use Rattle.ifl_desc.specs.declared.port.PortState.{PortState}
+use Rattle.ifl_desc.specs.Port.{WriterState, Ported, stored, MayFollow, state_of}
+use Rattle.ifl_desc.proofs.PortSteps.{stores}
+use Rattle.ifl_desc.proofs.port.Port.set.Goals as goal
+
+pub store-requires : goal.store-requires
+store-requires c = (
+  ap (λ (z : WriterState). z.port) c.w.view_is ∙ c.requires.own ∙ sym c.self.view_is,
+  (let w = c.self.invariant.0 in omega arith),
+  subst (λ (m : Me ℕ PortView). Allows Ported c.self.inside.table.shared.table_id.slots c.w.inside.seat.id m 0 (λ _. c.code.result) (λ _. stored (step c.self.inside.table.shared.table_id.slots 0 c.code.result 0 none) m 0)) (sym c.w.invariant.0)
+      (stores _ c.w.inside.seat.id c.code.result c.w.inside.seat.me.0.known c.args.s (sym c.code.ensures) (subst (λ (z : List PortState). MayFollow (state_of z) c.args.s) (sym (ap (λ (z : WriterState). z.known) c.w.view_is)) c.requires.legal)),
+)
