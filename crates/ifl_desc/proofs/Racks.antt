@@ -1,7 +1,7 @@
 -- A hand that placed or took an entry is a hand.
 use Rattle.std.proofs.Common.{◌≡◌, ℕ, zero, suc, ◌+◌, ◌-◌, ◌%◌, ◌<◌, ◌≤◌, List, [], ◌∷◌, ◌++◌, map, length, take, drop, replicate, sym, refl, ap, ◌∙◌, subst, arith, length-drop, length-append}
 use mathlib.Core.Option.{some, some-injective, some-ne-none}
-use lib.ListN.{get_elem?}
+use lib.ListN.{get_elem?, length-replicate}
 use Rattle.std.specs.Prelude.{Option, Some, None}
 use Rattle.atomic_table.specs.Table.{Me}
 use Rattle.atomic_table.specs.declared.shared.Seat.{Seat}
@@ -17,7 +17,7 @@ use Rattle.ifl_desc.specs.History.{other, sent, known}
 use Rattle.ifl_desc.specs.Rule.{Slot, laid, view, InOrder}
 use Rattle.ifl_desc.specs.Rack.{IsRack, SameSeat, placed, taken, seen_of, ahead, row}
 use Rattle.ifl_desc.proofs.Steps.{take_length}
-use Rattle.ifl_desc.proofs.Rows.{laid_length, there, changed, placed_is, row_placed, row_full, row_emptied, row_length, front_length, slot_at, map_length}
+use Rattle.ifl_desc.proofs.Rows.{laid_length, there, changed, placed_is, row_placed, row_full, row_emptied, row_length, front_length, slot_at, map_length, none_more, blank_row}
 
 -- no more is known than was sent
 pub known_there : (S : ℕ) (r : Side) (h : List Event) → InOrder S h → known r h ≤ length (sent (other r) h)
@@ -151,3 +151,66 @@ module _ (r : Side) where
         (subst (λ (z : List Event). h'.left ≤ known r z) (sym e) (let l = k.left in omega arith))
         (subst (λ (z : ℕ × List Event). InOrder z.0 z.1) (λ i. (sym size i, sym e i)) k.order)
         (let f = k.fits in omega arith)
+
+    -- the entry that was taken is the first of those ahead
+    pub taken_next : 0 < h.left → (d : Desc) → get_elem? (sent (other r) (seen_of h)) (taken r h) ≡ some d → q h.left ≡ d ∷ q (h.left - 1)
+    taken_next pos d e = let f = take_first pos in f.2 ∙ ap (λ (z : Desc). z ∷ q (h.left - 1)) (some-injective f.0 d (sym f.1 ∙ e))
+
+    -- the rack whose first i placed entries were taken back
+    abbrev pub unloaded : ℕ → List (ℕ × Slot)
+    unloaded i = laid S a (replicate i None ++ (map Some (drop i p) ++ (replicate h.bare None ++ map Some (q h.left))))
+
+    abbrev behind : ℕ → List Slot
+    behind i = map Some (drop (suc i) p) ++ (replicate h.bare None ++ map Some (q h.left))
+
+    blanks : (i : ℕ) → length (replicate {A = Slot} i None) ≡ i
+    blanks i = length-replicate i None
+
+    pub unload_first : (i : ℕ) → i < h.put → (d : Desc) × (get_elem? p i ≡ some d) × (unloaded i ≡ laid S a (replicate i None ++ Some d ∷ behind i))
+    unload_first i lt = let m = k.many in let got = at_some p i (omega arith) in
+        (got.0, got.1, ap (λ (z : List Desc). laid S a (replicate i None ++ (map Some z ++ (replicate h.bare None ++ map Some (q h.left))))) (drop_at p i got.0 got.1))
+
+    pub unload_there : (i : ℕ) → (lt : i < h.put) → (c : List (ℕ × Slot)) → c ≡ unloaded i → drop i c ≡ ((h.first + i) % S, Some (unload_first i lt).0) ∷ drop (suc i) c
+    unload_there i lt c e = let f = unload_first i lt in there S a i (replicate i None) (behind i) (blanks i) c (Some f.0) (e ∙ f.2)
+        ∙ ap (λ (z : ℕ). (z, Some f.0) ∷ drop (suc i) c) (sym (slot_at S a h.first i k.first))
+
+    pub unload_next : (i : ℕ) → (lt : i < h.put) → (c : List (ℕ × Slot)) → c ≡ unloaded i → take i c ++ ((h.first + i) % S, None) ∷ drop (suc i) c ≡ unloaded (suc i)
+    unload_next i lt c e = let f = unload_first i lt in
+        ap (λ (z : ℕ). take i c ++ (z, None) ∷ drop (suc i) c) (slot_at S a h.first i k.first)
+        ∙ changed S a i (replicate i None) (behind i) (blanks i) c (Some f.0) None (e ∙ f.2) ∙ ap (laid S a) (none_more i (behind i))
+
+    pub unload_long : (i : ℕ) → i ≤ h.put → length (unloaded i) ≡ (h.put + h.bare) + h.left
+    unload_long i le = let m = k.many in let b = blanks i in let d = length-drop i p in let e = map_length (drop i p) in let f = row_length [] h.bare (q h.left) in let g = ahead_length S r (seen_of h) h.left k.order k.left in
+        let x : List Slot = replicate h.bare None ++ map Some (q h.left) in let u = length-append (map Some (drop i p)) x in let v = length-append (replicate i None) (map Some (drop i p) ++ x) in
+        laid_length S a (replicate i None ++ (map Some (drop i p) ++ x)) ∙ (omega arith)
+
+    pub unload_done : (h' : Rack) → SameSeat h.seat h'.seat → h'.seat.me.1 ≡ unloaded h.put → h'.size ≡ S → h'.first ≡ h.first → h'.put ≡ 0 → h'.bare ≡ h.bare + h.put → h'.left ≡ h.left → IsRack r h'
+    unload_done h' same slots size first put bare left =
+        let v : h'.seat.me.0 ≡ h.seat.me.0 = same.2 in
+        let e : seen_of h' ≡ seen_of h = ap (λ (z : View). z.seen) v in
+        let b : h.put + h.bare ≡ h'.bare = omega arith in
+        let none_left : drop h.put p ≡ [] = ap (λ (z : ℕ). drop z p) (sym k.many) ∙ drop_whole p in
+        let rack : h'.seat.me.1 ≡ laid S a (row [] (h.put + h.bare) (q h.left)) =
+        slots ∙ ap (λ (z : List Desc). laid S a (replicate h.put None ++ (map Some z ++ (replicate h.bare None ++ map Some (q h.left))))) none_left
+        ∙ ap (laid S a) (blank_row h.put h.bare (map Some (q h.left))) in
+        (made h' [] (v ∙ k.role ∙ (λ i. view r (sym e i))) (ap (λ z. z.slots) same.0 ∙ k.size ∙ sym size) (subst (λ (z : ℕ). 0 < z) (sym size) k.some) (subst (λ (z : ℕ). z ≤ 32768) (sym size) k.small)
+        (rack ∙ (λ i. laid (sym size i) (length (sent r (sym e i))) (row [] (b i) (ahead r (sym e i) (sym left i)))))
+        (sym put)
+        (first ∙ k.first ∙ (λ i. length (sent r (sym e i)) % sym size i))
+        (subst (λ (z : ℕ × List Event). z.0 ≤ known r z.1) (λ i. (sym left i, sym e i)) k.left)
+        (subst (λ (z : ℕ × List Event). InOrder z.0 z.1) (λ i. (sym size i, sym e i)) k.order)
+        (let f = k.fits in omega arith)).0
+      where
+        drop_whole : (l : List Desc) → drop (length l) l ≡ []
+        drop_whole [] = refl
+        drop_whole (d ∷ l) = drop_whole l
+
+-- one more entry of a list
+pub take_one : {A : Type 0} (l : List A) (i : ℕ) (x : A) → get_elem? l i ≡ some x → take (suc i) l ≡ take i l ++ x ∷ []
+take_one [] i x e = absurd (some-ne-none x (sym e))
+take_one (y ∷ l) zero x e = ap (λ z. z ∷ []) (some-injective y x e)
+take_one (y ∷ l) (suc i) x e = ap (λ z. y ∷ z) (take_one l i x e)
+
+pub take_all_of : (l : List Desc) → take (length l) l ≡ l
+take_all_of [] = refl
+take_all_of (d ∷ l) = ap (λ (z : List Desc). d ∷ z) (take_all_of l)

@@ -74,9 +74,13 @@ placed_is S a n p Q c many e = ap (λ (z : List (ℕ × Slot)). valued (take n z
 pub row_placed : (p : List Desc) (n : ℕ) (q : List Desc) (d : Desc) → map Some p ++ Some d ∷ (replicate n None ++ map Some q) ≡ row (p ++ d ∷ []) n q
 row_placed p n q d = sym (ap (λ (z : List Slot). z ++ (replicate n None ++ map Some q)) (map_append p (d ∷ [])) ∙ append_assoc (map Some p) (Some d ∷ []) (replicate n None ++ map Some q))
 
-none_more : (n : ℕ) (Q : List Slot) → replicate n None ++ None ∷ Q ≡ None ∷ (replicate n None ++ Q)
+pub none_more : (n : ℕ) (Q : List Slot) → replicate n None ++ None ∷ Q ≡ None ∷ (replicate n None ++ Q)
 none_more zero Q = refl
 none_more (suc n) Q = ap (λ (z : List Slot). None ∷ z) (none_more n Q)
+
+pub blank_row : (n m : ℕ) (Q : List Slot) → replicate n None ++ (replicate m None ++ Q) ≡ replicate (n + m) None ++ Q
+blank_row zero m Q = ap (λ (z : ℕ). replicate z None ++ Q) (omega arith)
+blank_row (suc n) m Q = ap (λ (z : List Slot). None ∷ z) (blank_row n m Q) ∙ ap (λ (z : ℕ). replicate z None ++ Q) (let g : suc (n + m) ≡ suc n + m = omega arith in g)
 
 pub row_full : (p : List Desc) (n : ℕ) (q : List Desc) (d : Desc) → row p n (d ∷ q) ≡ (map Some p ++ replicate n None) ++ Some d ∷ map Some q
 row_full p n q d = sym (append_assoc (map Some p) (replicate n None) (Some d ∷ map Some q))

@@ -1,5 +1,5 @@
 -- What a contract sees of a ring that was closed: the whole list with its five lengths.
-use Rattle.std.specs.Prelude.{◌≡◌, ℕ, ◌+◌, ◌<◌, ◌≤◌, List, ◌++◌, length, drop}
+use Rattle.std.specs.Prelude.{◌≡◌, ℕ, ◌+◌, ◌-◌, ◌<◌, ◌≤◌, List, ◌++◌, length, drop}
 use mathlib.Core.List.{IsPrefix}
 use Rattle.ifl_desc.specs.declared.desc.Desc.{Desc}
 use Rattle.ifl_desc.specs.declared.history.Side.TheVariants.{Driver, Device}
@@ -34,6 +34,10 @@ whole_list c = sent Device c.history ++ (drop (all_returned c) (sent Driver c.hi
 -- what was posted and not reclaimed
 abbrev pub left_of : ClosedSees → List Desc
 left_of c = drop c.back (whole_list c)
+
+-- the closed ring of size S that left these, the last of which were never rung, after the history h
+abbrev pub remains_of : List Desc → ℕ → ℕ → List Event → ClosedSees
+remains_of left S pending h = record { size = S; history = h; pending = drop (length left - pending) left; back = (length (sent Driver h) + pending) - length left; fetched = length (sent Device h) }
 
 -- back <= returned = fetched <= rung <= posted, fewer than size are left, and the history is lawful
 pub record IsClosed (c : ClosedSees) : Type 0 where

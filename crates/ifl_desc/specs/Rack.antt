@@ -16,6 +16,10 @@ abbrev pub spin : {X : Type 0} → ℕ → List (ℕ × X) → List (ℕ × X)
 spin zero c = c
 spin (suc n) c = turned (spin n c)
 
+-- the history that a seat has seen
+abbrev pub seen_at : Seat Slot View → List Event
+seen_at s = s.me.0.seen
+
 abbrev pub seen_of : Rack → List Event
 seen_of h = h.seat.me.0.seen
 

@@ -7,6 +7,7 @@ mod history;
 mod plays;
 mod port;
 mod rack;
+mod remains;
 mod ring;
 mod signals;
 mod turns;
@@ -20,5 +21,6 @@ pub use plays::{
 };
 pub use port::{Port, PortReader, PortState, PortWriter};
 pub use rack::{EndSeat, Rack};
+pub use remains::Remains;
 pub use ring::DescRing;
 pub use turnstile::{Kept, Taken, Turnstile, TurnSeat};

@@ -1,7 +1,7 @@
 //! What an end holds of a ring. The adapters' ends are made of it.
-ghost use Rattle.std.specs.Prelude.{◌≡◌, ℕ, ◌+◌, ◌-◌, ◌%◌, ◌<◌, ◌≤◌, ◌∷◌, ◌++◌, length, take, drop, suc, [], MatchOption};
+ghost use Rattle.std.specs.Prelude.{◌≡◌, ℕ, ◌+◌, ◌-◌, ◌%◌, ◌<◌, ◌≤◌, ◌∷◌, ◌++◌, length, take, drop, suc, [], MatchOption, vec_capacity};
 ghost use Rattle.ifl_desc.specs.Rule.{Slot};
-ghost use Rattle.ifl_desc.specs.Rack.{SameSeat, IsRack, placed, taken, seen_of, spin};
+ghost use Rattle.ifl_desc.specs.Rack.{SameSeat, IsRack, placed, taken, ahead, seen_of, spin};
 ghost use Rattle.ifl_desc.specs.History.{other, sent, known};
 ghost use lib.ListN.{get_elem?};
 ghost use mathlib.Core.Option.{some};
@@ -111,5 +111,52 @@ impl Rack {
         self.bare += 1;
         self.left -= 1;
         d
+    }
+
+    /// Takes all entries that may be taken, in order, and puts them behind those in `out`.
+    pub fn take_all<R: IsSide, P: TableRule<Option<Desc>, View, u32>>(
+        &mut self,
+        shared: &Shared<Option<Desc>, View, u32, P>,
+        out: &mut Vec<Desc>,
+    )
+        requires table { self.old.seat.table_id ≡ shared.now.table_id }
+        requires rack { IsRack R.side self.old }
+        requires room { length out.old.items + self.old.left ≤ vec_capacity out.old }
+        ensures rack { IsRack R.side self.new }
+        ensures seat { SameSeat self.old.seat self.new.seat }
+        ensures placed { placed self.new ≡ placed self.old }
+        ensures out { out.new.items ≡ out.old.items ++ ahead R.side (seen_of self.old) self.old.left }
+        ensures capacity { vec_capacity out.new ≡ vec_capacity out.old }
+        ensures counts { (self.new.put ≡ self.old.put) × (self.new.bare ≡ self.old.bare + self.old.left) × (self.new.left ≡ 0) × (self.new.first ≡ self.old.first) × (self.new.size ≡ self.old.size) }
+    {
+        for _ in 0..self.left {
+            out.push_reserved(self.take::<R, P>(shared));
+        }
+    }
+
+    /// Takes all placed entries back, in order, and puts them behind those in `out`.
+    pub fn unload<R: IsSide, P: TableRule<Option<Desc>, View, u32>>(
+        &mut self,
+        shared: &Shared<Option<Desc>, View, u32, P>,
+        out: &mut Vec<Desc>,
+    )
+        requires table { self.old.seat.table_id ≡ shared.now.table_id }
+        requires rack { IsRack R.side self.old }
+        requires room { length out.old.items + self.old.put ≤ vec_capacity out.old }
+        ensures rack { IsRack R.side self.new }
+        ensures seat { SameSeat self.old.seat self.new.seat }
+        ensures out { out.new.items ≡ out.old.items ++ placed self.old }
+        ensures capacity { vec_capacity out.new ≡ vec_capacity out.old }
+        ensures counts { (self.new.put ≡ 0) × (self.new.bare ≡ self.old.bare + self.old.put) × (self.new.left ≡ self.old.left) × (self.new.first ≡ self.old.first) × (self.new.size ≡ self.old.size) }
+    {
+        let count = self.put + self.bare + self.left;
+        for at in 0..self.put {
+            let slot = (self.first + at) % self.size;
+            let old = swap_at(shared, &mut self.seat, count, at, slot as usize, None);
+            let Some(d) = old else { unreachable!() };
+            out.push_reserved(d);
+        }
+        self.bare += self.put;
+        self.put = 0;
     }
 }
