@@ -10,3 +10,7 @@ pub mod Beginning
 pub mod Ending
 pub mod TurnSteps
 pub mod PortSteps
+pub mod DriverCalls
+pub mod DeviceCalls
+pub mod Meeting
+pub mod Closing

@@ -1,5 +1,5 @@
 -- What a contract sees of a ring that was closed: the whole list with its five lengths.
-use Rattle.std.specs.Prelude.{◌≡◌, ℕ, ◌+◌, ◌-◌, ◌<◌, ◌≤◌, List, ◌++◌, length, drop}
+use Rattle.std.specs.Prelude.{◌≡◌, ℕ, ◌+◌, ◌-◌, ◌<◌, ◌≤◌, List, [], ◌++◌, length, drop}
 use mathlib.Core.List.{IsPrefix}
 use Rattle.ifl_desc.specs.declared.desc.Desc.{Desc}
 use Rattle.ifl_desc.specs.declared.history.Side.TheVariants.{Driver, Device}
@@ -58,3 +58,12 @@ pub record Closes (d : DriverSees) (v : DeviceSees) (c : ClosedSees) : Type 0 wh
   pub pending : c.pending ≡ d.pending
   pub back : c.back ≡ d.back
   pub fetched : c.fetched ≡ v.fetched
+
+-- each end knows all that the other sent, and the device has returned all that it fetched
+pub record HaveMet (d : DriverSees) (v : DeviceSees) : Type 0 where
+  pub told : known Driver d.seen ≡ length (sent Device d.seen)
+  pub heard : known Device v.seen ≡ length (sent Driver v.seen)
+  pub of_device : length (sent Device v.seen) ≤ length (sent Device d.seen)
+  pub of_driver : length (sent Driver d.seen) ≤ length (sent Driver v.seen)
+  pub done : v.fetched ≡ length (sent Device v.seen)
+  pub none : v.ready ≡ []

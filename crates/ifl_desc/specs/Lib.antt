@@ -9,3 +9,4 @@ pub mod Rack
 pub mod Turning
 pub mod Turns
 pub mod Port
+pub mod Sides

@@ -35,6 +35,12 @@ pub struct Desc {
     pub status: Status,
 }
 
+/// The fewest slots of a ring.
+pub const DESC_MIN: u32 = 8;
+
+/// The most slots of a ring.
+pub const DESC_MAX: u32 = 32_768;
+
 /// Why a ring could not be made.
 #[derive(Clone, Copy, Debug, PartialEq, Eq, Error)]
 pub enum DescFault {

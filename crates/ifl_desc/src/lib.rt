@@ -14,7 +14,7 @@ mod turns;
 mod turnstile;
 
 pub use closed::ClosedList;
-pub use desc::{Desc, DescFault, Status};
+pub use desc::{DESC_MAX, DESC_MIN, Desc, DescFault, Status};
 pub use history::{Event, IsSide, OfDevice, OfDriver, Role, Side, View};
 pub use plays::{
     DeviceRetires, DeviceSaw, DriverSaw, Fills, Gathers, Hearing, Notes, Parts, Unites,

@@ -1,0 +1,140 @@
+-- What a closed ring leaves, by what its two ends knew.
+use Rattle.std.proofs.Common.{◌≡◌, ℕ, zero, suc, ◌+◌, ◌-◌, ◌<◌, ◌≤◌, List, [], ◌∷◌, ◌++◌, length, take, drop, sym, refl, ap, ◌∙◌, subst, arith, append_assoc, append-nil, length-append, length-drop}
+use mathlib.Core.List.{IsPrefix}
+use lib.Seq.{drop-append-le}
+use Rattle.ifl_desc.specs.declared.desc.Desc.{Desc}
+use Rattle.ifl_desc.specs.declared.history.Side.{Side}
+use Rattle.ifl_desc.specs.declared.history.Side.TheVariants.{Driver, Device}
+use Rattle.ifl_desc.specs.declared.history.Event.{Event}
+use Rattle.ifl_desc.specs.declared.rack.Rack.{Rack}
+use Rattle.ifl_desc.specs.History.{other, sent, known, own}
+use Rattle.ifl_desc.specs.Frames.{IsShort}
+use Rattle.ifl_desc.specs.Rule.{InOrder, IsLawful}
+use Rattle.ifl_desc.specs.Rack.{IsRack, placed, taken, seen_of, ahead}
+use Rattle.ifl_desc.specs.Sides.{driver_of, device_of, DriverOk, DeviceOk}
+use Rattle.ifl_desc.specs.Closed.{ClosedSees, IsClosed, Closes, HaveMet, left_of, remains_of}
+use Rattle.ifl_desc.proofs.Steps.{sent_append, same_sent}
+use Rattle.ifl_desc.proofs.Racks.{take_all_of}
+
+pub prefix_trans : (a b c : List Event) → IsPrefix a b → IsPrefix b c → IsPrefix a c
+prefix_trans a b c p q = (p.0 ++ q.0, sym (append_assoc a p.0 q.0) ∙ ap (λ (z : List Event). z ++ q.0) p.1 ∙ q.1)
+
+nil_of : (l : List Desc) → length l ≡ 0 → l ≡ []
+nil_of [] e = refl
+nil_of (d ∷ l) e = absurd (omega arith)
+
+-- a beginning in which a side has sent as many has all that it sent
+pub as_long : (r : Side) (a b : List Event) → IsPrefix a b → length (sent r b) ≤ length (sent r a) → sent r b ≡ sent r a
+as_long r a b p le =
+    let t : List Desc = sent r p.0 in
+    let e : sent r b ≡ sent r a ++ t = ap (sent r) (sym p.1) ∙ sent_append r a p.0 in
+    let n : length (sent r b) ≡ length (sent r a) + length t = ap length e ∙ length-append (sent r a) t in
+    e ∙ ap (λ (z : List Desc). sent r a ++ z) (nil_of t (omega arith)) ∙ append-nil (sent r a)
+
+-- what a side sent in a longer history is no less
+pub no_less : (r : Side) (a b : List Event) → IsPrefix a b → length (sent r a) ≤ length (sent r b)
+no_less r a b p = let t : List Desc = sent r p.0 in let n : length (sent r b) ≡ length (sent r a) + length t = ap length (ap (sent r) (sym p.1) ∙ sent_append r a p.0) ∙ length-append (sent r a) t in omega arith
+
+drop_front : (n : ℕ) (xs ys : List Desc) → length xs ≡ n → drop n (xs ++ ys) ≡ ys
+drop_front zero [] ys e = refl
+drop_front zero (x ∷ xs) ys e = absurd (omega arith)
+drop_front (suc n) [] ys e = absurd (omega arith)
+drop_front (suc n) (x ∷ xs) ys e = drop_front n xs ys (omega arith)
+
+-- the entries ahead of an end that knows all that was sent
+ahead_whole : (r : Side) (h : List Event) (left : ℕ) → known r h ≡ length (sent (other r) h) → ahead r h left ≡ drop (known r h - left) (sent (other r) h)
+ahead_whole r h left e = ap (drop (known r h - left)) (ap (λ (z : ℕ). take z (sent (other r) h)) e ∙ take_all_of (sent (other r) h))
+
+module _ (h v : Rack) (k : DriverOk h) (w : DeviceOk v) (m : HaveMet (driver_of h) (device_of v)) (end : List Event) (was : List Event)
+    (driver_saw : IsPrefix (seen_of h) end) (driver_own : own Driver (seen_of h) ≡ own Driver end)
+    (device_saw : IsPrefix (seen_of v) was) (device_same : own Device was ≡ own Device (seen_of v)) (was_saw : IsPrefix was end) (was_own : own Device was ≡ own Device end)
+    (lawful : IsLawful h.size end) (items : List Desc) (out : items ≡ (ahead Driver (seen_of h) h.left ++ ahead Device (seen_of v) v.left) ++ placed h) where
+  abbrev rung : List Desc
+  rung = sent Driver end
+
+  abbrev returned : List Desc
+  returned = sent Device end
+
+  abbrev closed : ClosedSees
+  closed = remains_of items h.size h.put end
+
+  abbrev back : ℕ
+  back = taken Driver h
+
+  device_prefix : IsPrefix (seen_of v) end
+  device_prefix = prefix_trans (seen_of v) was end device_saw was_saw
+
+  rung_is : rung ≡ sent Driver (seen_of h)
+  rung_is = sym (same_sent Driver (seen_of h) end driver_own)
+
+  returned_is : returned ≡ sent Device (seen_of v)
+  returned_is = sym (same_sent Device was end was_own) ∙ same_sent Device was (seen_of v) device_same
+
+  driver_knows : returned ≡ sent Device (seen_of h)
+  driver_knows = let a = ap length returned_is in let b = m.of_device in as_long Device (seen_of h) end driver_saw (omega arith)
+
+  device_knows : rung ≡ sent Driver (seen_of v)
+  device_knows = let a = ap length rung_is in let b = m.of_driver in as_long Driver (seen_of v) end device_prefix (omega arith)
+
+  first_part : ahead Driver (seen_of h) h.left ≡ drop back returned
+  first_part = ahead_whole Driver (seen_of h) h.left m.told ∙ ap (drop back) (sym driver_knows)
+
+  second_part : ahead Device (seen_of v) v.left ≡ drop (length returned) rung
+  second_part = ahead_whole Device (seen_of v) v.left m.heard ∙ (λ i. drop ((m.done ∙ ap length (sym returned_is)) i) (sym device_knows i))
+
+  list_is : items ≡ drop back returned ++ (drop (length returned) rung ++ placed h)
+  list_is = out ∙ (λ i. (first_part i ++ second_part i) ++ placed h) ∙ append_assoc (drop back returned) (drop (length returned) rung) (placed h)
+
+  order : InOrder h.size end
+  order = lawful.order end ([], append-nil end)
+
+  in_turn : length returned ≤ length rung
+  in_turn = let a = order.done in let b = order.heard in omega arith
+
+  back_before : back ≤ length returned
+  back_before = let a = ap length driver_knows in let b = m.told in omega arith
+
+  many : length items ≡ (length returned - back) + ((length rung - length returned) + h.put)
+  many =
+      let rest : List Desc = drop (length returned) rung ++ placed h in
+      let a = length-append (drop back returned) rest in let b = length-append (drop (length returned) rung) (placed h) in
+      let c = length-drop back returned in let d = length-drop (length returned) rung in let n = k.rack.many in
+      ap length list_is ∙ (omega arith)
+
+  back_is : closed.back ≡ back
+  back_is = let a = many in let b = back_before in let c = in_turn in omega arith
+
+  pending_is : closed.pending ≡ placed h
+  pending_is =
+      let front : List Desc = drop back returned ++ drop (length returned) rung in
+      let a = length-append (drop back returned) (drop (length returned) rung) in let c = length-drop back returned in let d = length-drop (length returned) rung in let n = many in
+      let e : items ≡ front ++ placed h = out ∙ (λ i. (first_part i ++ second_part i) ++ placed h) in
+      ap (λ (z : List Desc). drop (length items - h.put) z) e ∙ drop_front (length items - h.put) front (placed h) (omega arith)
+
+  pub closed_left : items ≡ left_of closed
+  closed_left = list_is ∙ sym (drop-append-le back returned (drop (length returned) rung ++ placed h) back_before)
+      ∙ (λ i. drop (sym back_is i) (returned ++ (drop (length returned) rung ++ sym pending_is i)))
+
+  pub closed_lawful : IsClosed closed
+  closed_lawful =
+      let a = back_is in let b = back_before in let p = ap length pending_is in let n = k.rack.many in let r = ap length rung_is in
+      let s = ap length driver_knows in let u = m.told in let t = k.total in let o = k.bare in let f = k.rack.left in record {
+        lawful = lawful;
+        short = subst (IsShort 0) (sym pending_is) k.short;
+        behind = omega arith;
+        done = refl;
+        within = in_turn;
+        room = omega arith;
+      }
+
+  pub closed_list : Closes (driver_of h) (device_of v) closed
+  closed_list = record {
+    size = sym k.rack.size;
+    of_driver = driver_saw;
+    of_device = device_prefix;
+    rung = rung_is;
+    returned = returned_is;
+    pending = pending_is;
+    back = back_is;
+    fetched = ap length returned_is ∙ sym m.done;
+  }

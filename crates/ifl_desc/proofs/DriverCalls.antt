@@ -1,0 +1,144 @@
+-- The driver's end after each of its calls.
+use Rattle.std.proofs.Common.{◌≡◌, ℕ, zero, suc, ◌+◌, ◌-◌, ◌%◌, ◌<◌, ◌≤◌, Bool, true, false, cond, List, [], ◌∷◌, ◌++◌, map, length, take, drop, set, get_or, replicate, sym, refl, ap, ◌∙◌, subst, arith, length-set, append-nil, append_assoc, get_or-set_other, get_or-set_same, length-append}
+use mathlib.Core.Option.{some, none}
+use mathlib.Core.List.{IsPrefix}
+use Rattle.std.specs.Prelude.{Option, Some, None}
+use Rattle.atomic_table.specs.Table.{Me, step, Allows}
+use Rattle.ifl_desc.specs.declared.desc.Desc.{Desc}
+use Rattle.ifl_desc.specs.declared.history.Side.{Side}
+use Rattle.ifl_desc.specs.declared.history.Side.TheVariants.{Driver, Device}
+use Rattle.ifl_desc.specs.declared.history.Event.{Event}
+use Rattle.ifl_desc.specs.declared.history.Event.TheVariants.{Sent, Looked}
+use Rattle.ifl_desc.specs.declared.history.View.{View}
+use Rattle.ifl_desc.specs.declared.rack.Rack.{Rack}
+use Rattle.ifl_desc.specs.History.{other, sent, known, own, looks}
+use Rattle.ifl_desc.specs.Frames.{IsShort, IsWhole, IsFine, IsBegun, IsFrame, IsSettled, open_after}
+use Rattle.ifl_desc.specs.Rule.{Slot, laid, InOrder, IsLawful, Tied}
+use Rattle.ifl_desc.specs.Plays.{distance, pushed, pulled}
+use Rattle.ifl_desc.specs.Ends.{DriverSees, IsDriver, room_of}
+use Rattle.ifl_desc.specs.Calls.{Grew, Posts, Flushes, Credits}
+use Rattle.ifl_desc.specs.Rack.{IsRack, SameSeat, placed, taken, seen_of, spin}
+use Rattle.ifl_desc.proofs.Steps.{Fits, sent_append, known_append, same_sent}
+use Rattle.ifl_desc.proofs.Allowed.{Has}
+use Rattle.ifl_desc.proofs.OwnSteps.{rack_pushes, rack_pulls, looked_sent}
+use Rattle.ifl_desc.proofs.Rows.{slot_at}
+use Rattle.std.proofs.Math.Nat.{add-mod_right}
+use native.Mathlib.Decide.{ℕ_discrete}
+use mathlib.Core.Logic.{dite}
+use lib.Seq.{set-get_or}
+use Rattle.ifl_desc.proofs.AfterSteps.{push_done, pull_done, grew_sent, grew_known, grew_prefix, grew_other, grew_looks, kept_sent, more_known, laid_shift}
+use Rattle.ifl_desc.specs.Sides.{driver_of, DriverOk}
+
+pub driver_lawful : (h : Rack) → DriverOk h → IsDriver (driver_of h)
+driver_lawful h k = let n = k.rack.many in let l = k.rack.left in let t = k.total in let b = k.bare in let s = k.rack.size in record {
+  lawful = subst (λ (z : ℕ). IsLawful z (seen_of h)) (sym k.rack.size) k.lawful;
+  short = k.short;
+  behind = omega arith;
+  room = omega arith;
+}
+
+short_more : (n : ℕ) (p : List Desc) (d : Desc) → IsShort n p → open_after n p < 64 → IsShort n (p ++ d ∷ [])
+short_more n [] d s o = (o, tt)
+short_more n (x ∷ p) d s o = (s.0, short_more (cond x.last 0 (suc n)) p d s.1 o)
+
+pub posts_ok : (h h' : Rack) (d : Desc) → DriverOk h → open_after 0 (placed h) < 64 → 1 < h.bare → IsRack Driver h' → SameSeat h.seat h'.seat → placed h' ≡ placed h ++ d ∷ []
+    → h'.put ≡ h.put + 1 → h'.bare + 1 ≡ h.bare → h'.left ≡ h.left → h'.size ≡ h.size → DriverOk h'
+posts_ok h h' d k o more rack same list put bare left size =
+    let e : seen_of h' ≡ seen_of h = ap (λ (z : View). z.seen) same.2 in
+    let t = k.total in
+    let a = ap (λ (z : List Event). length (sent Driver z)) e in
+    let b = ap (known Driver) e in record {
+      rack = rack;
+      total = omega arith;
+      bare = omega arith;
+      lawful = subst (λ (z : ℕ × List Event). IsLawful z.0 z.1) (λ i. (sym size i, sym e i)) k.lawful;
+      short = subst (IsShort 0) (sym list) (short_more 0 (placed h) d k.short o);
+    }
+
+pub room_is : (h : Rack) → DriverOk h → (v : DriverSees) → driver_of h ≡ v → 0 < room_of v → 1 < h.bare
+room_is h k v e r = let r' : 0 < room_of (driver_of h) = subst (λ (z : DriverSees). 0 < room_of z) (sym e) r in let n = k.rack.many in let l = k.rack.left in let t = k.total in let b = k.bare in let s = k.rack.size in omega arith
+
+pub flush_done : (h h' : Rack) (k : DriverOk h) (slots new : ℕ) → slots ≡ h.size → new ≡ (length (sent Driver (seen_of h)) + h.put) % h.size → pushed Driver (step slots 0 new 0 none) h.seat.me new h'.seat.me
+    → h'.seat.table_id ≡ h.seat.table_id → h'.size ≡ h.size → h'.first ≡ new → h'.put ≡ 0 → h'.bare ≡ h.bare → h'.left ≡ h.left → DriverOk h' × Flushes (driver_of h) (driver_of h')
+flush_done h h' k slots new slots_is word told id size first put bare left =
+    let told' : pushed Driver (step h.size 0 new 0 none) h.seat.me new h'.seat.me = subst (λ (z : ℕ). pushed Driver (step z 0 new 0 none) h.seat.me new h'.seat.me) slots_is told in
+    let n = k.rack.many in let l = k.rack.left in let t = k.total in let b = k.bare in let f = k.rack.fits in
+    let short : h.put < h.size = omega arith in
+    let d = push_done Driver h k.rack 0 new new short word h' told' (ap (λ z. z.slots) id ∙ k.rack.size) size first put bare left in
+    let e : Event = Sent Driver (placed h) in
+    let seen' : List Event = seen_of h' in
+    let a' : length (sent Driver seen') ≡ length (sent Driver (seen_of h)) + length (placed h) = ap length (grew_sent Driver (seen_of h) seen' e d.2 ∙ ap (λ (z : List Desc). sent Driver (seen_of h) ++ z) (append-nil (placed h))) ∙ length-append (sent Driver (seen_of h)) (placed h) in
+    let kn : known Driver seen' ≡ known Driver (seen_of h) + 0 = grew_known Driver (seen_of h) seen' e d.2 in
+    let back : taken Driver h' ≡ taken Driver h = omega arith in (
+      record {
+        rack = d.0;
+        total = omega arith;
+        bare = omega arith;
+        lawful = subst (λ (z : ℕ). IsLawful z seen') (sym size) told'.3;
+        short = subst (IsShort 0) (sym d.1) tt;
+      },
+      (d.2, (λ i. record { ring = id i; seen = seen'; pending = d.1 i; back = back i })),
+    )
+
+-- the number of the last slot held, as code computes it
+pub last_is : (r : Side) (h : Rack) (k : IsRack r h) → (((h.first + h.put) + h.bare) + h.left) % h.size ≡ (length (sent r (seen_of h)) + ((h.put + h.bare) + h.left)) % h.size
+last_is r h k = ap (λ (z : ℕ). z % h.size) (let g : ((h.first + h.put) + h.bare) + h.left ≡ h.first + ((h.put + h.bare) + h.left) = omega arith in g) ∙ slot_at h.size (length (sent r (seen_of h))) h.first ((h.put + h.bare) + h.left) k.first
+
+pub learn_count : (h : Rack) (k : DriverOk h) (x : ℕ) → (x + (h.size - (((h.first + h.put) + h.bare) + h.left) % h.size)) % h.size ≡ distance h.size (known Driver (seen_of h)) x
+learn_count h k x = let t = k.total in
+    ap (λ (z : ℕ). (x + (h.size - z)) % h.size) (last_is Driver h k.rack ∙ ap (λ (z : ℕ). z % h.size) (let g : length (sent Driver (seen_of h)) + ((h.put + h.bare) + h.left) ≡ known Driver (seen_of h) + h.size = omega arith in g)
+    ∙ add-mod_right (known Driver (seen_of h)) h.size)
+
+pub learn_done : (h h' : Rack) (k : DriverOk h) (m' : Me Slot View) (slots x n : ℕ) → slots ≡ h.size → n ≡ distance h.size (known Driver (seen_of h)) x → pulled Driver (step slots 1 0 0 none) h.seat.me x m'
+    → h'.seat.table_id ≡ h.seat.table_id → h'.seat.me.0 ≡ m'.0 → h'.seat.me.1 ≡ spin n m'.1 → h'.size ≡ h.size → h'.first ≡ h.first → h'.put ≡ h.put → h'.bare ≡ h.bare → h'.left ≡ h.left + n
+    → DriverOk h' × Credits (driver_of h) n (driver_of h')
+learn_done h h' k m' slots x n slots_is n_is told id me0 me1 size first put bare left =
+    let told' : pulled Driver (step h.size 1 0 0 none) h.seat.me x m' = subst (λ (z : ℕ). pulled Driver (step z 1 0 0 none) h.seat.me x m') slots_is told in
+    let a : List Event = seen_of h in
+    let seen' : List Event = m'.0.seen in
+    let t = k.total in let l = k.rack.left in let b = k.bare in
+    let o = told'.2 in
+    let w0 : Grew Driver a seen' (Looked Driver n) = subst (λ (z : ℕ). Grew Driver a seen' (Looked Driver z)) (sym n_is) told'.1 in
+    let kn : known Driver seen' ≡ known Driver a + n = more_known Driver a seen' n w0 in
+    let sn : length (sent Driver seen') ≡ length (sent Driver a) = ap length (kept_sent Driver a seen' n w0) in
+    let o1 = o.done in let o2 = o.heard in let all = told'.4 in
+    let fits : (h'.put + h'.bare) + h'.left ≤ h.size = omega arith in
+    let turn : (xs : List Slot) → laid h.size (known Driver a) xs ≡ laid h.size (length (sent Driver a) + ((h.put + h.bare) + h.left)) xs =
+    λ xs. sym (laid_shift h.size (known Driver a) xs) ∙ ap (λ (z : ℕ). laid h.size z xs) (let g : known Driver a + h.size ≡ length (sent Driver a) + ((h.put + h.bare) + h.left) = omega arith in g) in
+    let d = pull_done Driver h k.rack 1 x turn m' told' h' me0 (me1 ∙ ap (λ (z : ℕ). spin z m'.1) n_is) (ap (λ z. z.slots) id ∙ k.rack.size) size first put bare (left ∙ ap (λ (z : ℕ). h.left + z) n_is) fits in
+    let es : seen_of h' ≡ seen' = ap (λ (z : View). z.seen) me0 in
+    let w : Grew Driver a (seen_of h') (Looked Driver n) = subst (λ (z : List Event). Grew Driver a z (Looked Driver n)) (sym es) w0 in
+    let kn' : known Driver (seen_of h') ≡ known Driver a + n = more_known Driver a (seen_of h') n w in
+    let sn' : length (sent Driver (seen_of h')) ≡ length (sent Driver a) = ap length (kept_sent Driver a (seen_of h') n w) in
+    let all' : known Driver (seen_of h') ≡ length (sent Device (seen_of h')) = (λ i. known Driver (es i)) ∙ all ∙ (λ i. length (sent Device (sym es i))) in
+    let back : taken Driver h' ≡ taken Driver h = omega arith in (
+      record {
+        rack = d.0;
+        total = omega arith;
+        bare = omega arith;
+        lawful = subst (λ (z : ℕ × List Event). IsLawful z.0 z.1) (λ i. (sym size i, sym es i)) told'.3;
+        short = subst (IsShort 0) (sym d.1) k.short;
+      },
+      record {
+        goes_on = grew_prefix Driver a (seen_of h') (Looked Driver n) w;
+        same = λ i. record { ring = id i; seen = seen_of h'; pending = d.1 i; back = back i };
+        rings_not = kept_sent Driver a (seen_of h') n w;
+        looked = grew_looks Driver a (seen_of h') n w;
+        more = kn';
+        all = all';
+      },
+    )
+
+pub reclaims_ok : (h h' : Rack) (k : DriverOk h) → IsRack Driver h' → SameSeat h.seat h'.seat → placed h' ≡ placed h
+    → h'.put ≡ h.put → h'.bare ≡ h.bare + 1 → h'.left + 1 ≡ h.left → h'.size ≡ h.size → DriverOk h'
+reclaims_ok h h' k rack same list put bare left size =
+    let e : seen_of h' ≡ seen_of h = ap (λ (z : View). z.seen) same.2 in
+    let t = k.total in let b = k.bare in
+    let a = ap (λ (z : List Event). length (sent Driver z)) e in
+    let c = ap (known Driver) e in record {
+      rack = rack;
+      total = omega arith;
+      bare = omega arith;
+      lawful = subst (λ (z : ℕ × List Event). IsLawful z.0 z.1) (λ i. (sym size i, sym e i)) k.lawful;
+      short = subst (IsShort 0) (sym list) k.short;
+    }

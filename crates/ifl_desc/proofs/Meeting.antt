@@ -1,0 +1,60 @@
+-- The ends after they met.
+use Rattle.std.proofs.Common.{◌≡◌, ℕ, zero, suc, ◌+◌, ◌-◌, ◌%◌, ◌<◌, ◌≤◌, List, [], ◌∷◌, ◌++◌, map, length, set, get_or, replicate, sym, refl, ap, ◌∙◌, subst, arith, length-set, mod-eq_of_lt}
+use mathlib.Core.Option.{some, none}
+use mathlib.Core.List.{IsPrefix}
+use Rattle.std.specs.Prelude.{Option, Some, None}
+use Rattle.atomic_table.specs.Table.{Me, step, opening, Allows, Splits, Joins}
+use Rattle.ifl_desc.specs.declared.desc.Desc.{Desc}
+use Rattle.ifl_desc.specs.declared.history.Side.{Side}
+use Rattle.ifl_desc.specs.declared.history.Side.TheVariants.{Driver, Device}
+use Rattle.ifl_desc.specs.declared.history.Event.{Event}
+use Rattle.ifl_desc.specs.declared.history.View.{View}
+use Rattle.ifl_desc.specs.declared.rack.Rack.{Rack}
+use Rattle.ifl_desc.specs.History.{other, sent, known, own}
+use Rattle.ifl_desc.specs.Frames.{IsShort, IsBegun}
+use Rattle.ifl_desc.specs.Rule.{Slot, view, InOrder, IsLawful}
+use Rattle.ifl_desc.specs.Plays.{filled, saw, note, hearing, whole, full}
+use Rattle.ifl_desc.specs.Rack.{IsRack, placed, taken, seen_of}
+use Rattle.ifl_desc.proofs.Steps.{same_sent, same_known}
+use Rattle.ifl_desc.proofs.Beginning.{starts, fills, parts, notes, joins, sees}
+use Rattle.ifl_desc.proofs.AfterSteps.{saw_done}
+use Rattle.ifl_desc.specs.Sides.{driver_of, device_of, DriverOk, DeviceOk}
+
+abbrev pub Mine : Type 0
+Mine = Me Slot View
+
+-- a look, after which all that was heard has been seen
+pub record Met (r : Side) (h h' : Rack) (g : List Event) : Type 0 where
+  pub rack : IsRack r h'
+  pub list : placed h' ≡ placed h
+  pub same : taken r h' ≡ taken r h
+  pub goes_on : IsPrefix (seen_of h) (seen_of h')
+  pub heard : IsPrefix g (seen_of h')
+  pub mine : own r (seen_of h') ≡ own r (seen_of h)
+  pub lawful : IsLawful h'.size (seen_of h')
+
+pub met : (r : Side) (h h' : Rack) (k : IsRack r h) (m : Mine) (g : List Event) (slots x : ℕ) → slots ≡ h.size → m.0 ≡ hearing h.seat.me.0 (note g) → m.1 ≡ h.seat.me.1 → saw r (step slots 0 0 0 none) m x h'.seat.me
+    → h'.seat.table_id ≡ h.seat.table_id → h'.size ≡ h.size → h'.first ≡ h.first → h'.put ≡ h.put → h'.bare ≡ h.bare → h'.left ≡ h.left → Met r h h' g
+met r h h' k m g slots x slots_is m0 m1 told id size first put bare left =
+    let seen : m.0.seen ≡ seen_of h = ap (λ (z : View). z.seen) m0 in
+    let heard : m.0.heard ≡ g = ap (λ (z : View). z.heard) m0 in
+    let pre : IsPrefix (seen_of h) (seen_of h') = subst (λ (z : List Event). IsPrefix z (seen_of h')) seen told.1 in
+    let mine : own r (seen_of h') ≡ own r (seen_of h) = told.3 ∙ ap (own r) seen in
+    let order : InOrder h.size (seen_of h') = subst (λ (z : ℕ). InOrder z (seen_of h')) slots_is told.4 in
+    let d = saw_done r h k h' pre mine told.0 order (told.6 ∙ m1) (ap (λ z. z.slots) id ∙ k.size) size first put bare left in record {
+      rack = d.0;
+      list = d.1;
+      same = d.2;
+      goes_on = pre;
+      heard = subst (λ (z : List Event). IsPrefix z (seen_of h')) heard told.2;
+      mine = mine;
+      lawful = subst (λ (z : ℕ). IsLawful z (seen_of h')) (slots_is ∙ sym size) told.5;
+    }
+
+pub met_driver : (h h' : Rack) (g : List Event) (k : DriverOk h) → Met Driver h h' g → h'.size ≡ h.size → h'.put ≡ h.put → h'.bare ≡ h.bare → h'.left ≡ h.left → DriverOk h'
+met_driver h h' g k m size put bare left = let t = k.total in let b = k.bare in let a = ap length (same_sent Driver (seen_of h') (seen_of h) m.mine) in let c = same_known Driver (seen_of h') (seen_of h) m.mine in
+    record { rack = m.rack; total = omega arith; bare = omega arith; lawful = m.lawful; short = subst (IsShort 0) (sym m.list) k.short }
+
+pub met_device : (h h' : Rack) (g : List Event) (k : DeviceOk h) → Met Device h h' g → h'.size ≡ h.size → h'.put ≡ h.put → h'.bare ≡ h.bare → h'.left ≡ h.left → DeviceOk h'
+met_device h h' g k m size put bare left = let t = k.total in let a = ap length (same_sent Device (seen_of h') (seen_of h) m.mine) in let c = same_known Device (seen_of h') (seen_of h) m.mine in
+    record { rack = m.rack; total = omega arith; lawful = m.lawful; begun = subst IsBegun (sym m.list) k.begun }

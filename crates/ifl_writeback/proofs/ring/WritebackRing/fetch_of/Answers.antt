@@ -1,0 +1,34 @@
+use Rattle.std.proofs.Common.{◌≡◌, ℕ, ◌+◌, ◌-◌, ◌%◌, ◌<◌, ◌∙◌, ap, sym, arith, subst, List, refl, length}
+use Rattle.ifl_desc.specs.declared.rack.Rack.{Rack}
+use Rattle.ifl_desc.specs.Ends.{DeviceSees, Fetches}
+use Rattle.ifl_writeback.specs.Sides.{device_of, DeviceOk}
+use Rattle.ifl_writeback.proofs.Serving.{device_lawful, hears, hear_count, hear_done}
+use Rattle.ifl_writeback.proofs.ring.WritebackRing.fetch_of.Goals as goal
+
+pub load-found-requires : goal.load-found-requires
+load-found-requires c = let h : Rack = c.end.inside.rack in let k : DeviceOk h = c.end.invariant in let z = c.args.self.now.sized in
+    let t = ap (λ (x : DeviceSees). x.ring) c.end.view_is ∙ c.requires in
+    let slots = ap (λ x. x.slots) (sym t) ∙ k.rack.size in
+    (t, (let w = z.0 in omega arith), hears h k _ _ h.seat.id slots (z.2 ∙ sym z.1 ∙ slots))
+
+pub invariant_of-end : goal.invariant_of-end
+invariant_of-end c = let h : Rack = c.end.inside.rack in let k : DeviceOk h = c.end.invariant in
+    let t = ap (λ (x : DeviceSees). x.ring) c.end.view_is ∙ c.requires in
+    let slots = ap (λ x. x.slots) (sym t) ∙ k.rack.size in let q = c.turn_all.ensures.counts in let s = c.turn_all.ensures.seat in
+    let n : ℕ = (c.load-found.result + (h.size - (((h.first + h.put) + h.bare) + h.left) % h.size)) % h.size in
+    let g = c.turn_all.new.self in
+    let h' : Rack = record { seat = g.seat; size = g.size; first = g.first; put = g.put; bare = g.bare; left = g.left + n } in
+    (hear_done h h' k c.load-found.new.seat.me _ c.load-found.result n slots (hear_count h k c.load-found.result) c.load-found.ensures.2 (s.0 ∙ c.load-found.ensures.0) s.2 c.turn_all.ensures.slots q.4 q.3 q.0 q.1 (ap (λ (x : ℕ). x + n) q.2)).0
+
+pub returns-clause-list : goal.returns-clause-list
+returns-clause-list c = let h : Rack = c.end.inside.rack in let k : DeviceOk h = c.end.invariant in
+    let t = ap (λ (x : DeviceSees). x.ring) c.end.view_is ∙ c.requires in
+    let slots = ap (λ x. x.slots) (sym t) ∙ k.rack.size in let q = c.turn_all.ensures.counts in let s = c.turn_all.ensures.seat in
+    let n : ℕ = (c.load-found.result + (h.size - (((h.first + h.put) + h.bare) + h.left) % h.size)) % h.size in
+    let g = c.turn_all.new.self in
+    let h' : Rack = record { seat = g.seat; size = g.size; first = g.first; put = g.put; bare = g.bare; left = g.left + n } in
+    subst (λ (x : DeviceSees). Fetches x n (device_of h')) c.end.view_is
+    (hear_done h h' k c.load-found.new.seat.me _ c.load-found.result n slots (hear_count h k c.load-found.result) c.load-found.ensures.2 (s.0 ∙ c.load-found.ensures.0) s.2 c.turn_all.ensures.slots q.4 q.3 q.0 q.1 (ap (λ (x : ℕ). x + n) q.2)).1
+
+pub returns-clause-lawful : goal.returns-clause-lawful
+returns-clause-lawful c = device_lawful _ (invariant_of-end c)
