@@ -15,7 +15,7 @@ use Rattle.ifl_desc.specs.declared.history.Role.{Role}
 use Rattle.ifl_desc.specs.declared.history.Role.TheVariants.{Whole, Full, End, Note, Closing}
 use Rattle.ifl_desc.specs.declared.history.View.{View}
 use Rattle.ifl_desc.specs.History.{other, sent, known, own}
-use Rattle.ifl_desc.specs.Rule.{Slot, RingState, laid, takes_all, view, InOrder, Acts, Knows, Tied}
+use Rattle.ifl_desc.specs.Rule.{Slot, RingState, laid, takes_all, view, InOrder, IsLawful, Acts, Knows, Tied}
 use Rattle.ifl_desc.specs.Plays.{filled, saw, note, hearing, whole, full}
 use Rattle.ifl_desc.proofs.Slots.{Homes, taken_carried, taken_length, taken_valid}
 use Rattle.ifl_desc.proofs.Steps.{self}
@@ -48,6 +48,17 @@ as_device : (a b : ℕ) (r : Side) (j : ℕ) → j ≡ b → Acts (End Device) r
 as_device a b Driver j e acts = absurd acts
 as_device a b Device j e acts = e
 
+in_order_new : (S : ℕ) → 0 < S → InOrder S []
+in_order_new S pos = record { told = omega arith; done = omega arith; heard = omega arith; within = omega arith }
+
+nothing_before : (g t : List Event) → g ++ t ≡ [] → g ≡ []
+nothing_before [] t e = refl
+nothing_before (x ∷ g) t e = absurd (let l : suc (length (g ++ t)) ≡ 0 = ap length e in omega arith)
+
+-- a new ring's history
+pub lawful_new : (S : ℕ) → 0 < S → IsLawful S []
+lawful_new S pos = record { order = λ g p. subst (InOrder S) (sym (nothing_before g p.0 p.1)) (in_order_new S pos); frames = tt }
+
 module _ (S : ℕ) (tie : List ℕ → List Event → Type 0) where
   pub starts : (words : List ℕ) → 0 < S → tie words [] → Tied S tie (opening words (replicate S None) whole)
   starts words pos shows = record {
@@ -56,8 +67,8 @@ module _ (S : ℕ) (tie : List ℕ → List Event → Type 0) where
     size = length-map (replicate {A = Slot} S None) some ∙ length-replicate S None;
     room = pos;
     shows = shows;
-    order = at_start;
-    lawful = record { order = λ g p. subst (InOrder S) (sym (none g p.0 p.1)) at_start; frames = tt };
+    order = in_order_new S pos;
+    lawful = lawful_new S pos;
     at_home = λ r i d le e. absurd (some-ne-none d (sym (ap (λ (z : List Desc). get_elem? z i) (sym (nothing r)) ∙ e)));
     each = λ j v e. ⊎_elim (λ (h : get_elem? [] j ≡ some v). absurd (some-ne-none v (sym h))) (λ (h : (j ≡ 0) × (whole ≡ v)). subst (λ (z : View). Knows S [] (map some (replicate {A = Slot} S None)) z.role z.seen) h.1 (refl, blank S)) (at_end [] whole v j e);
     hears = λ j v e. ⊎_elim (λ (h : get_elem? [] j ≡ some v). absurd (some-ne-none v (sym h))) (λ (h : (j ≡ 0) × (whole ≡ v)). subst (λ (z : View). IsPrefix z.heard []) h.1 ([], refl)) (at_end [] whole v j e);
@@ -66,13 +77,6 @@ module _ (S : ℕ) (tie : List ℕ → List Event → Type 0) where
     where
       nothing : (r : Side) → sent r [] ≡ []
       nothing r = refl
-
-      at_start : InOrder S []
-      at_start = record { told = omega arith; done = omega arith; heard = omega arith; within = omega arith }
-
-      none : (g t : List Event) → g ++ t ≡ [] → g ≡ []
-      none [] t e = refl
-      none (x ∷ g) t e = absurd (let l : suc (length (g ++ t)) ≡ 0 = ap length e in omega arith)
 
   -- a seat that may act for both sides is the only one that acts
   alone : (role : Role) (h log : List Event) (homes homes' : Homes Slot) → ((r : Side) → Acts role r → ⊥) → Knows S log homes role h → Knows S log homes' role h

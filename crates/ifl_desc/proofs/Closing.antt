@@ -12,6 +12,14 @@ use Rattle.ifl_desc.specs.Frames.{IsShort}
 use Rattle.ifl_desc.specs.Rule.{InOrder, IsLawful}
 use Rattle.ifl_desc.specs.Rack.{IsRack, placed, taken, seen_of, ahead}
 use Rattle.ifl_desc.specs.Sides.{driver_of, device_of, DriverOk, DeviceOk}
+use mathlib.Core.Option.{none}
+use Rattle.atomic_table.specs.Table.{step}
+use Rattle.ifl_desc.specs.declared.history.Event.TheVariants.{Looked}
+use Rattle.ifl_desc.specs.declared.history.View.{View}
+use Rattle.ifl_desc.specs.Ends.{DriverSees, DeviceSees, completed}
+use Rattle.ifl_desc.specs.Calls.{Meets, Credits, Fetches}
+use Rattle.ifl_desc.specs.Plays.{Mine, closing, retired, gathered, joined}
+use Rattle.ifl_desc.proofs.AfterSteps.{grew_prefix, kept_sent}
 use Rattle.ifl_desc.specs.Closed.{ClosedSees, IsClosed, Closes, HaveMet, left_of, remains_of}
 use Rattle.ifl_desc.proofs.Steps.{sent_append, same_sent}
 use Rattle.ifl_desc.proofs.Racks.{take_all_of}
@@ -137,4 +145,65 @@ module _ (h v : Rack) (k : DriverOk h) (w : DeviceOk v) (m : HaveMet (driver_of 
     pending = pending_is;
     back = back_is;
     fetched = ap length returned_is ∙ sym m.done;
+  }
+
+-- the remains that the two seats leave, once the device's was retired and joined to the driver's
+pub remains_ok : (h v : Rack) (k : DriverOk h) (w : DeviceOk v) → HaveMet (driver_of h) (device_of v) → (S slots i x y : ℕ) → S ≡ h.size → slots ≡ h.size
+    → (d : View) → d ≡ h.seat.me.0 → (a b : Mine) → a.0 ≡ v.seat.me.0 → retired (step slots i 0 0 none) a x b → (j e : Mine) → j.0 ≡ closing d b.0 → gathered (step slots i 0 0 none) j y e
+    → (items : List Desc) → items ≡ (ahead Driver (seen_of h) h.left ++ ahead Device (seen_of v) v.left) ++ placed h
+    → IsClosed (remains_of items S h.put e.0.seen) × (items ≡ left_of (remains_of items S h.put e.0.seen)) × Closes (driver_of h) (device_of v) (remains_of items S h.put e.0.seen)
+remains_ok h v k w m S slots i x y S_is slots_is d d_is a b a_is gone j e j_is told items out =
+    let end : List Event = e.0.seen in
+    let was : List Event = b.0.seen in
+    let seen : j.0.seen ≡ seen_of h = ap (λ (z : View). z.seen) j_is ∙ ap (λ (z : View). z.seen) d_is in
+    let other_seen : joined j.0.role ≡ was = ap (λ (z : View). joined z.role) j_is in
+    let before : a.0.seen ≡ seen_of v = ap (λ (z : View). z.seen) a_is in
+    let driver_saw : IsPrefix (seen_of h) end = subst (λ (z : List Event). IsPrefix z end) seen told.0 in
+    let driver_own : own Driver (seen_of h) ≡ own Driver end = ap (own Driver) (sym seen) ∙ told.1 in
+    let was_saw : IsPrefix was end = subst (λ (z : List Event). IsPrefix z end) other_seen told.2 in
+    let was_own : own Device was ≡ own Device end = ap (own Device) (sym other_seen) ∙ told.3 in
+    let device_saw : IsPrefix (seen_of v) was = subst (λ (z : List Event). IsPrefix z was) before gone.1 in
+    let device_same : own Device was ≡ own Device (seen_of v) = gone.2 ∙ ap (own Device) before in
+    let lawful : IsLawful h.size end = subst (λ (z : ℕ). IsLawful z end) slots_is told.4 in
+    let P : ℕ → Type 0 = λ z. IsClosed (remains_of items z h.put end) × (items ≡ left_of (remains_of items z h.put end)) × Closes (driver_of h) (device_of v) (remains_of items z h.put end) in
+    subst P (sym S_is) (
+      closed_lawful h v k w m end was driver_saw driver_own device_saw device_same was_saw was_own lawful items out,
+      closed_left h v k w m end was driver_saw driver_own device_saw device_same was_saw was_own lawful items out,
+      closed_list h v k w m end was driver_saw driver_own device_saw device_same was_saw was_own lawful items out,
+    )
+
+module _ (d d' d'' : DriverSees) (v v' v'' : DeviceSees) (n k : ℕ) (m : Meets d v d' v') (c : Credits d' n d'') (f : Fetches v' k v'') where
+  driver_sent : sent Driver d''.seen ≡ sent Driver d.seen
+  driver_sent = c.rings_not ∙ same_sent Driver d'.seen d.seen m.driver_own
+
+  device_sent : sent Device v''.seen ≡ sent Device v.seen
+  device_sent = kept_sent Device v'.seen v''.seen k f.0 ∙ same_sent Device v'.seen v.seen m.device_own
+
+  -- the ends that met, and then looked, know all that was sent
+  pub have_met : completed v ≡ v.fetched → v.ready ≡ [] → HaveMet d'' v''
+  have_met all gone =
+      let by_device = no_less Device v.seen d''.seen (prefix_trans v.seen d'.seen d''.seen m.driver_hears c.goes_on) in
+      let by_driver = no_less Driver d.seen v''.seen (prefix_trans d.seen v'.seen v''.seen m.device_hears (grew_prefix Device v'.seen v''.seen (Looked Device k) f.0)) in
+      let a = ap length device_sent in let b = ap length driver_sent in
+      let e : v''.fetched ≡ v.fetched = ap (λ (z : DeviceSees). z.fetched) f.1 ∙ ap (λ (z : DeviceSees). z.fetched) m.device in
+      let r = ap length gone in record {
+        told = c.all;
+        heard = f.2;
+        of_device = omega arith;
+        of_driver = omega arith;
+        done = omega arith;
+        none = ap (λ (z : DeviceSees). z.ready) f.1 ∙ ap (λ (z : DeviceSees). z.ready) m.device ∙ gone;
+      }
+
+  -- what closes these ends closes those that met
+  pub closes_since : (z : ClosedSees) → Closes d'' v'' z → Closes d v z
+  closes_since z o = record {
+    size = o.size ∙ ap (λ (x : DriverSees). x.ring.slots) c.same ∙ ap (λ (x : DriverSees). x.ring.slots) m.driver;
+    of_driver = prefix_trans d.seen d'.seen z.history m.of_driver (prefix_trans d'.seen d''.seen z.history c.goes_on o.of_driver);
+    of_device = prefix_trans v.seen v'.seen z.history m.of_device (prefix_trans v'.seen v''.seen z.history (grew_prefix Device v'.seen v''.seen (Looked Device k) f.0) o.of_device);
+    rung = o.rung ∙ driver_sent;
+    returned = o.returned ∙ device_sent;
+    pending = o.pending ∙ ap (λ (x : DriverSees). x.pending) c.same ∙ ap (λ (x : DriverSees). x.pending) m.driver;
+    back = o.back ∙ ap (λ (x : DriverSees). x.back) c.same ∙ ap (λ (x : DriverSees). x.back) m.driver;
+    fetched = o.fetched ∙ ap (λ (x : DeviceSees). x.fetched) f.1 ∙ ap (λ (x : DeviceSees). x.fetched) m.device;
   }

@@ -17,11 +17,12 @@ use Rattle.ifl_desc.specs.Rule.{Slot, laid, view, InOrder, Tied}
 use Rattle.ifl_desc.specs.Plays.{distance, pushed, pulled, filled, saw, note, hearing, whole, full, retired, gathered, closing}
 use Rattle.ifl_desc.specs.Ends.{DriverSees, DeviceSees}
 use Rattle.ifl_desc.proofs.DeviceCalls.{frame_of, word₁, short₁, total₁}
-use Rattle.ifl_desc.specs.Rack.{IsRack, SameSeat, placed, taken, seen_of, spin}
+use Rattle.ifl_desc.specs.Rack.{IsRack, SameSeat, placed, taken, ahead, row, seen_of, spin}
 use Rattle.ifl_desc.proofs.Steps.{Fits, sent_append, known_append, same_sent}
 use Rattle.ifl_desc.proofs.Allowed.{Has}
 use Rattle.ifl_desc.proofs.OwnSteps.{rack_pushes, rack_pulls, looked_sent}
-use Rattle.ifl_desc.proofs.Rows.{slot_at}
+use Rattle.ifl_desc.proofs.Rows.{slot_at, laid_length}
+use Rattle.ifl_desc.proofs.Racks.{counted}
 use Rattle.std.proofs.Math.Nat.{add-mod_right}
 use native.Mathlib.Decide.{ℕ_discrete}
 use mathlib.Core.Logic.{dite}
@@ -129,3 +130,26 @@ sees_of S key slots id r me h g key_is slots_is is =
     let P : ℕ × ℕ × View → Type 0 = λ z. Allows (Holds z.0) z.1 id (z.2, me.1) 0 (λ n. n) (saw r (step z.1 0 0 0 none) (z.2, me.1)) in
     subst P (λ i. (sym key_is i, sym slots_is i, sym is i)) (sees S (WordTie S) id 0 r h g me.1 (λ ws h f. tie_same S 0 ws h f))
 
+
+-- the device gives back all slots that it holds
+pub retires_of : (v : Rack) (k : IsRack Device v) (key slots id : ℕ) → ((v.put + v.bare) + v.left) + length (sent Device (seen_of v)) ≡ known Device (seen_of v) → slots ≡ v.size → key ≡ v.size
+    → Allows (Holds key) slots id v.seat.me 0 (λ n. n) (retired (step slots 0 0 0 none) v.seat.me)
+retires_of v k key slots id total slots_is key_is =
+    let a : ℕ = length (sent Device (seen_of v)) in
+    let xs : List Slot = row (placed v) v.bare (ahead Device (seen_of v) v.left) in
+    let many : length xs ≡ (v.put + v.bare) + v.left = sym (laid_length v.size a xs) ∙ ap length (sym k.rack) ∙ sym (counted Device v k) in
+    let me : v.seat.me ≡ (view Device (seen_of v), laid v.size a xs ++ []) = λ i. (k.role i, (k.rack ∙ sym (append-nil (laid v.size a xs))) i) in
+    let P : ℕ × ℕ × Mine → Type 0 = λ z. Allows (Holds z.0) z.1 id z.2 0 (λ n. n) (retired (step z.1 0 0 0 none) z.2) in
+    subst P (λ i. (sym key_is i, sym slots_is i, sym me i)) (retires v.size (WordTie v.size) id 0 (seen_of v) xs (omega arith) (λ ws h f. tie_same v.size 0 ws h f))
+
+-- its seat is joined to the driver's
+pub unites_of : (key id other : ℕ) (d v : View) → d ≡ view Driver d.seen → v ≡ view Device v.seen → Joins (Holds key) id d other v (closing d v) (note [])
+unites_of key id other d v d_is v_is = subst (λ (z : View × View). Joins (Holds key) id z.0 other z.1 (closing z.0 z.1) (note [])) (λ i. (sym d_is i, sym v_is i)) (ends key (WordTie key) id d.seen other v.seen)
+
+-- and it looks once more
+pub gathers_of : (S key slots id : ℕ) (me : Mine) (d v : View) → key ≡ S → slots ≡ S → d ≡ view Driver d.seen → v ≡ view Device v.seen → me.0 ≡ closing d v
+    → Allows (Holds key) slots id me 0 (λ n. n) (gathered (step slots 0 0 0 none) me)
+gathers_of S key slots id me d v key_is slots_is d_is v_is is =
+    let P : ℕ × ℕ × View → Type 0 = λ z. Allows (Holds z.0) z.1 id (z.2, me.1) 0 (λ n. n) (gathered (step z.1 0 0 0 none) (z.2, me.1)) in
+    let role : closing (view Driver d.seen) (view Device v.seen) ≡ me.0 = (λ i. closing (sym d_is i) (sym v_is i)) ∙ sym is in
+    subst P (λ i. (sym key_is i, sym slots_is i, role i)) (gathers S (WordTie S) id 0 d.seen v.seen me.1 (λ ws h f. tie_same S 0 ws h f))

@@ -10,8 +10,8 @@ mod ends;
 mod plays;
 mod ring;
 
-#[cfg(test)]
-mod tests;
+
+
 
 pub use closed::WritebackClosed;
 pub use ends::{WritebackDevice, WritebackDriver};

@@ -1,8 +1,8 @@
 use Rattle.std.proofs.Common.{◌≡◌, ℕ, ◌+◌, ◌-◌, ◌<◌, ◌∙◌, ap, sym, arith, subst, List}
 use Rattle.ifl_desc.specs.declared.desc.Desc.{Desc}
-use Rattle.ifl_desc.specs.History.{open_after}
-use Rattle.ifl_writeback.proofs.Driving.{driver_lawful, posts_ok, room_is}
-use Rattle.ifl_writeback.proofs.ring.WritebackRing.post_to.Goals as goal
+use Rattle.ifl_desc.specs.Frames.{open_after}
+use Rattle.ifl_desc.proofs.DriverCalls.{driver_lawful, posts_ok, room_is}
+use Rattle.ifl_writeback.proofs.ring.WritebackRingDescRing.post.Goals as goal
 
 pub invariant_of-end : goal.invariant_of-end
 invariant_of-end c = let h = c.end.inside.rack in let k = c.end.invariant in let v = c.end.view_is in let n = c.place.ensures.counts in

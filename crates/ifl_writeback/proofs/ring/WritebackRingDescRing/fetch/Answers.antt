@@ -1,19 +1,21 @@
 use Rattle.std.proofs.Common.{◌≡◌, ℕ, ◌+◌, ◌-◌, ◌%◌, ◌<◌, ◌∙◌, ap, sym, arith, subst, List, refl, length}
 use Rattle.ifl_desc.specs.declared.rack.Rack.{Rack}
-use Rattle.ifl_desc.specs.Ends.{DeviceSees, Fetches}
-use Rattle.ifl_writeback.specs.Sides.{device_of, DeviceOk}
-use Rattle.ifl_writeback.proofs.Serving.{device_lawful, hears, hear_count, hear_done}
-use Rattle.ifl_writeback.proofs.ring.WritebackRing.fetch_of.Goals as goal
+use Rattle.ifl_desc.specs.Ends.{DeviceSees}
+use Rattle.ifl_desc.specs.Calls.{Fetches}
+use Rattle.ifl_desc.specs.Sides.{device_of, DeviceOk}
+use Rattle.ifl_desc.proofs.DeviceCalls.{device_lawful, hear_count, hear_done}
+use Rattle.ifl_writeback.proofs.WordSteps.{hears}
+use Rattle.ifl_writeback.proofs.ring.WritebackRingDescRing.fetch.Goals as goal
 
 pub load-found-requires : goal.load-found-requires
-load-found-requires c = let h : Rack = c.end.inside.rack in let k : DeviceOk h = c.end.invariant in let z = c.args.self.now.sized in
-    let t = ap (λ (x : DeviceSees). x.ring) c.end.view_is ∙ c.requires in
+load-found-requires c = let h : Rack = c.end.inside.rack in let k : DeviceOk h = c.end.invariant in let z = c.self.invariant in
+    let t = ap (λ (x : DeviceSees). x.ring) c.end.view_is ∙ c.requires ∙ sym c.self.view_is in
     let slots = ap (λ x. x.slots) (sym t) ∙ k.rack.size in
     (t, (let w = z.0 in omega arith), hears h k _ _ h.seat.id slots (z.2 ∙ sym z.1 ∙ slots))
 
 pub invariant_of-end : goal.invariant_of-end
 invariant_of-end c = let h : Rack = c.end.inside.rack in let k : DeviceOk h = c.end.invariant in
-    let t = ap (λ (x : DeviceSees). x.ring) c.end.view_is ∙ c.requires in
+    let t = ap (λ (x : DeviceSees). x.ring) c.end.view_is ∙ c.requires ∙ sym c.self.view_is in
     let slots = ap (λ x. x.slots) (sym t) ∙ k.rack.size in let q = c.turn_all.ensures.counts in let s = c.turn_all.ensures.seat in
     let n : ℕ = (c.load-found.result + (h.size - (((h.first + h.put) + h.bare) + h.left) % h.size)) % h.size in
     let g = c.turn_all.new.self in
@@ -22,7 +24,7 @@ invariant_of-end c = let h : Rack = c.end.inside.rack in let k : DeviceOk h = c.
 
 pub returns-clause-list : goal.returns-clause-list
 returns-clause-list c = let h : Rack = c.end.inside.rack in let k : DeviceOk h = c.end.invariant in
-    let t = ap (λ (x : DeviceSees). x.ring) c.end.view_is ∙ c.requires in
+    let t = ap (λ (x : DeviceSees). x.ring) c.end.view_is ∙ c.requires ∙ sym c.self.view_is in
     let slots = ap (λ x. x.slots) (sym t) ∙ k.rack.size in let q = c.turn_all.ensures.counts in let s = c.turn_all.ensures.seat in
     let n : ℕ = (c.load-found.result + (h.size - (((h.first + h.put) + h.bare) + h.left) % h.size)) % h.size in
     let g = c.turn_all.new.self in

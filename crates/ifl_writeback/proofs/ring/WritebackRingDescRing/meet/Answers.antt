@@ -3,56 +3,58 @@ use mathlib.Core.List.{IsPrefix}
 use Rattle.ifl_desc.specs.declared.rack.Rack.{Rack}
 use Rattle.ifl_desc.specs.declared.history.Side.TheVariants.{Driver, Device}
 use Rattle.ifl_desc.specs.declared.history.View.{View}
-use Rattle.ifl_desc.specs.Ends.{DriverSees, DeviceSees, Meets}
+use Rattle.ifl_desc.specs.Ends.{DriverSees, DeviceSees}
+use Rattle.ifl_desc.specs.Calls.{Meets}
 use Rattle.ifl_desc.specs.Rack.{seen_of, placed}
 use Rattle.ifl_desc.specs.Plays.{note, hearing}
-use Rattle.ifl_writeback.specs.Sides.{driver_of, device_of, DriverOk, DeviceOk}
-use Rattle.ifl_writeback.proofs.Driving.{driver_lawful}
-use Rattle.ifl_writeback.proofs.Serving.{device_lawful}
-use Rattle.ifl_writeback.proofs.Meeting.{Mine, notes_of, joins_of, sees_of, Met, met, met_driver, met_device}
-use Rattle.ifl_writeback.proofs.ring.WritebackRing.meet_ends.Goals as goal
+use Rattle.ifl_desc.specs.Sides.{driver_of, device_of, DriverOk, DeviceOk}
+use Rattle.ifl_desc.proofs.DriverCalls.{driver_lawful}
+use Rattle.ifl_desc.proofs.DeviceCalls.{device_lawful}
+use Rattle.ifl_writeback.proofs.WordSteps.{Mine, notes_of, joins_of, sees_of}
+use Rattle.ifl_desc.proofs.Meeting.{Met, met, met_driver, met_device}
+use Rattle.ifl_writeback.proofs.ring.WritebackRingDescRing.meet.Goals as goal
 
 pub split_seat-told-requires : goal.split_seat-told-requires
-split_seat-told-requires c = let d0 : Rack = c.driver.inside.rack in let dk : DriverOk d0 = c.driver.invariant in let z = c.args.self.now.sized in
-    let td = ap (λ (x : DriverSees). x.ring) c.driver.view_is ∙ c.requires.0 in
+split_seat-told-requires c = let d0 : Rack = c.driver.inside.rack in let dk : DriverOk d0 = c.driver.invariant in let z = c.self.invariant in
+    let td = ap (λ (x : DriverSees). x.ring) c.driver.view_is ∙ c.requires.rings.0 ∙ sym c.self.view_is in
     let slots = ap (λ x. x.slots) (sym td) ∙ dk.rack.size in let key = z.2 ∙ sym z.1 ∙ slots in
     (td, (let w = z.0 in omega arith), notes_of _ _ Driver _ dk.rack.role)
 
 pub split_seat-heard-requires : goal.split_seat-heard-requires
-split_seat-heard-requires c = let d0 : Rack = c.driver.inside.rack in let dk : DriverOk d0 = c.driver.invariant in let z = c.args.self.now.sized in
-    let td = ap (λ (x : DriverSees). x.ring) c.driver.view_is ∙ c.requires.0 in
+split_seat-heard-requires c = let d0 : Rack = c.driver.inside.rack in let dk : DriverOk d0 = c.driver.invariant in let z = c.self.invariant in
+    let td = ap (λ (x : DriverSees). x.ring) c.driver.view_is ∙ c.requires.rings.0 ∙ sym c.self.view_is in
     let slots = ap (λ x. x.slots) (sym td) ∙ dk.rack.size in let key = z.2 ∙ sym z.1 ∙ slots in
     let v0 : Rack = c.device.inside.rack in let vk : DeviceOk v0 = c.device.invariant in
-    let tv = ap (λ (x : DeviceSees). x.ring) c.device.view_is ∙ c.requires.1 in
+    let tv = ap (λ (x : DeviceSees). x.ring) c.device.view_is ∙ c.requires.rings.1 ∙ sym c.self.view_is in
     let slots_v = ap (λ x. x.slots) (sym tv) ∙ vk.rack.size in let key_v = z.2 ∙ sym z.1 ∙ slots_v in
     (tv, (let w = z.0 in omega arith), notes_of _ _ Device _ vk.rack.role)
 
 pub join_seat-requires : goal.join_seat-requires
-join_seat-requires c = let d0 : Rack = c.driver.inside.rack in let dk : DriverOk d0 = c.driver.invariant in let z = c.args.self.now.sized in
-    let td = ap (λ (x : DriverSees). x.ring) c.driver.view_is ∙ c.requires.0 in
+join_seat-requires c = let d0 : Rack = c.driver.inside.rack in let dk : DriverOk d0 = c.driver.invariant in let z = c.self.invariant in
+    let td = ap (λ (x : DriverSees). x.ring) c.driver.view_is ∙ c.requires.rings.0 ∙ sym c.self.view_is in
     let slots = ap (λ x. x.slots) (sym td) ∙ dk.rack.size in let key = z.2 ∙ sym z.1 ∙ slots in
     let v0 : Rack = c.device.inside.rack in let vk : DeviceOk v0 = c.device.invariant in
-    let tv = ap (λ (x : DeviceSees). x.ring) c.device.view_is ∙ c.requires.1 in
+    let tv = ap (λ (x : DeviceSees). x.ring) c.device.view_is ∙ c.requires.rings.1 ∙ sym c.self.view_is in
     let slots_v = ap (λ x. x.slots) (sym tv) ∙ vk.rack.size in let key_v = z.2 ∙ sym z.1 ∙ slots_v in
     let e = ap (λ (m : Mine). m.0) c.split_seat-heard.ensures.4 in
     (c.split_seat-told.ensures.0 ∙ td, c.split_seat-heard.ensures.3 ∙ tv, ap (λ (m : Mine). m.1) c.split_seat-heard.ensures.4, (let w = z.0 in omega arith), joins_of _ _ _ _ _ (e ∙ ap note (sym (ap (λ (x : View). x.seen) e))))
 
 pub join_seat-requires-2 : goal.join_seat-requires-2
-join_seat-requires-2 c = let d0 : Rack = c.driver.inside.rack in let dk : DriverOk d0 = c.driver.invariant in let z = c.args.self.now.sized in
-    let td = ap (λ (x : DriverSees). x.ring) c.driver.view_is ∙ c.requires.0 in
+join_seat-requires-2 c = let d0 : Rack = c.driver.inside.rack in let dk : DriverOk d0 = c.driver.invariant in let z = c.self.invariant in
+    let td = ap (λ (x : DriverSees). x.ring) c.driver.view_is ∙ c.requires.rings.0 ∙ sym c.self.view_is in
     let slots = ap (λ x. x.slots) (sym td) ∙ dk.rack.size in let key = z.2 ∙ sym z.1 ∙ slots in
     let v0 : Rack = c.device.inside.rack in let vk : DeviceOk v0 = c.device.invariant in
-    let tv = ap (λ (x : DeviceSees). x.ring) c.device.view_is ∙ c.requires.1 in
+    let tv = ap (λ (x : DeviceSees). x.ring) c.device.view_is ∙ c.requires.rings.1 ∙ sym c.self.view_is in
     let slots_v = ap (λ x. x.slots) (sym tv) ∙ vk.rack.size in let key_v = z.2 ∙ sym z.1 ∙ slots_v in
     let e = ap (λ (m : Mine). m.0) c.split_seat-told.ensures.4 in
     (c.split_seat-heard.ensures.0 ∙ tv, c.split_seat-told.ensures.3 ∙ td, ap (λ (m : Mine). m.1) c.split_seat-told.ensures.4, (let w = z.0 in omega arith), joins_of _ _ _ _ _ (e ∙ ap note (sym (ap (λ (x : View). x.seen) e))))
 
 pub load-requires : goal.load-requires
-load-requires c = let d0 : Rack = c.driver.inside.rack in let dk : DriverOk d0 = c.driver.invariant in let z = c.args.self.now.sized in
-    let td = ap (λ (x : DriverSees). x.ring) c.driver.view_is ∙ c.requires.0 in
+load-requires c = let d0 : Rack = c.driver.inside.rack in let dk : DriverOk d0 = c.driver.invariant in let z = c.self.invariant in
+    let td = ap (λ (x : DriverSees). x.ring) c.driver.view_is ∙ c.requires.rings.0 ∙ sym c.self.view_is in
     let slots = ap (λ x. x.slots) (sym td) ∙ dk.rack.size in let key = z.2 ∙ sym z.1 ∙ slots in
     let v0 : Rack = c.device.inside.rack in let vk : DeviceOk v0 = c.device.invariant in
-    let tv = ap (λ (x : DeviceSees). x.ring) c.device.view_is ∙ c.requires.1 in
+    let tv = ap (λ (x : DeviceSees). x.ring) c.device.view_is ∙ c.requires.rings.1 ∙ sym c.self.view_is in
     let slots_v = ap (λ x. x.slots) (sym tv) ∙ vk.rack.size in let key_v = z.2 ∙ sym z.1 ∙ slots_v in
     let told_me = c.split_seat-told.ensures.2 in let heard_me = c.split_seat-heard.ensures.4 in
     let m0 : c.join_seat.new.seat.me.0 ≡ hearing d0.seat.me.0 (note (seen_of v0)) = ap (λ (m : Mine). m.0) c.join_seat.ensures.2 ∙ (λ i. hearing (told_me i).0 (heard_me i).0) in
@@ -61,11 +63,11 @@ load-requires c = let d0 : Rack = c.driver.inside.rack in let dk : DriverOk d0 =
     (jd ∙ td, (let w = z.0 in omega arith), sees_of d0.size _ _ _ Driver _ (seen_of d0) (seen_of v0) key slots (m0 ∙ ap (λ (x : View). hearing x (note (seen_of v0))) dk.rack.role))
 
 pub load-requires-2 : goal.load-requires-2
-load-requires-2 c = let d0 : Rack = c.driver.inside.rack in let dk : DriverOk d0 = c.driver.invariant in let z = c.args.self.now.sized in
-    let td = ap (λ (x : DriverSees). x.ring) c.driver.view_is ∙ c.requires.0 in
+load-requires-2 c = let d0 : Rack = c.driver.inside.rack in let dk : DriverOk d0 = c.driver.invariant in let z = c.self.invariant in
+    let td = ap (λ (x : DriverSees). x.ring) c.driver.view_is ∙ c.requires.rings.0 ∙ sym c.self.view_is in
     let slots = ap (λ x. x.slots) (sym td) ∙ dk.rack.size in let key = z.2 ∙ sym z.1 ∙ slots in
     let v0 : Rack = c.device.inside.rack in let vk : DeviceOk v0 = c.device.invariant in
-    let tv = ap (λ (x : DeviceSees). x.ring) c.device.view_is ∙ c.requires.1 in
+    let tv = ap (λ (x : DeviceSees). x.ring) c.device.view_is ∙ c.requires.rings.1 ∙ sym c.self.view_is in
     let slots_v = ap (λ x. x.slots) (sym tv) ∙ vk.rack.size in let key_v = z.2 ∙ sym z.1 ∙ slots_v in
     let own_me = c.split_seat-heard.ensures.2 in let note_me = c.split_seat-told.ensures.4 in
     let n0 : c.join_seat-2.new.seat.me.0 ≡ hearing v0.seat.me.0 (note (seen_of d0)) = ap (λ (m : Mine). m.0) c.join_seat-2.ensures.2 ∙ (λ i. hearing (own_me i).0 (note_me i).0) in
@@ -74,11 +76,11 @@ load-requires-2 c = let d0 : Rack = c.driver.inside.rack in let dk : DriverOk d0
     (jv ∙ tv, (let w = z.0 in omega arith), sees_of v0.size _ _ _ Device _ (seen_of v0) (seen_of d0) key_v slots_v (n0 ∙ ap (λ (x : View). hearing x (note (seen_of d0))) vk.rack.role))
 
 pub invariant_of-driver : goal.invariant_of-driver
-invariant_of-driver c = let d0 : Rack = c.driver.inside.rack in let dk : DriverOk d0 = c.driver.invariant in let z = c.args.self.now.sized in
-    let td = ap (λ (x : DriverSees). x.ring) c.driver.view_is ∙ c.requires.0 in
+invariant_of-driver c = let d0 : Rack = c.driver.inside.rack in let dk : DriverOk d0 = c.driver.invariant in let z = c.self.invariant in
+    let td = ap (λ (x : DriverSees). x.ring) c.driver.view_is ∙ c.requires.rings.0 ∙ sym c.self.view_is in
     let slots = ap (λ x. x.slots) (sym td) ∙ dk.rack.size in let key = z.2 ∙ sym z.1 ∙ slots in
     let v0 : Rack = c.device.inside.rack in let vk : DeviceOk v0 = c.device.invariant in
-    let tv = ap (λ (x : DeviceSees). x.ring) c.device.view_is ∙ c.requires.1 in
+    let tv = ap (λ (x : DeviceSees). x.ring) c.device.view_is ∙ c.requires.rings.1 ∙ sym c.self.view_is in
     let slots_v = ap (λ x. x.slots) (sym tv) ∙ vk.rack.size in let key_v = z.2 ∙ sym z.1 ∙ slots_v in
     let told_me = c.split_seat-told.ensures.2 in let heard_me = c.split_seat-heard.ensures.4 in
     let m0 : c.join_seat.new.seat.me.0 ≡ hearing d0.seat.me.0 (note (seen_of v0)) = ap (λ (m : Mine). m.0) c.join_seat.ensures.2 ∙ (λ i. hearing (told_me i).0 (heard_me i).0) in
@@ -89,11 +91,11 @@ invariant_of-driver c = let d0 : Rack = c.driver.inside.rack in let dk : DriverO
     met_driver d0 d1 (seen_of v0) dk md refl refl refl refl
 
 pub invariant_of-device : goal.invariant_of-device
-invariant_of-device c = let d0 : Rack = c.driver.inside.rack in let dk : DriverOk d0 = c.driver.invariant in let z = c.args.self.now.sized in
-    let td = ap (λ (x : DriverSees). x.ring) c.driver.view_is ∙ c.requires.0 in
+invariant_of-device c = let d0 : Rack = c.driver.inside.rack in let dk : DriverOk d0 = c.driver.invariant in let z = c.self.invariant in
+    let td = ap (λ (x : DriverSees). x.ring) c.driver.view_is ∙ c.requires.rings.0 ∙ sym c.self.view_is in
     let slots = ap (λ x. x.slots) (sym td) ∙ dk.rack.size in let key = z.2 ∙ sym z.1 ∙ slots in
     let v0 : Rack = c.device.inside.rack in let vk : DeviceOk v0 = c.device.invariant in
-    let tv = ap (λ (x : DeviceSees). x.ring) c.device.view_is ∙ c.requires.1 in
+    let tv = ap (λ (x : DeviceSees). x.ring) c.device.view_is ∙ c.requires.rings.1 ∙ sym c.self.view_is in
     let slots_v = ap (λ x. x.slots) (sym tv) ∙ vk.rack.size in let key_v = z.2 ∙ sym z.1 ∙ slots_v in
     let own_me = c.split_seat-heard.ensures.2 in let note_me = c.split_seat-told.ensures.4 in
     let n0 : c.join_seat-2.new.seat.me.0 ≡ hearing v0.seat.me.0 (note (seen_of d0)) = ap (λ (m : Mine). m.0) c.join_seat-2.ensures.2 ∙ (λ i. hearing (own_me i).0 (note_me i).0) in
@@ -104,11 +106,11 @@ invariant_of-device c = let d0 : Rack = c.driver.inside.rack in let dk : DriverO
     met_device v0 v1 (seen_of d0) vk mv refl refl refl refl
 
 pub returns-clause-list : goal.returns-clause-list
-returns-clause-list c = let d0 : Rack = c.driver.inside.rack in let dk : DriverOk d0 = c.driver.invariant in let z = c.args.self.now.sized in
-    let td = ap (λ (x : DriverSees). x.ring) c.driver.view_is ∙ c.requires.0 in
+returns-clause-list c = let d0 : Rack = c.driver.inside.rack in let dk : DriverOk d0 = c.driver.invariant in let z = c.self.invariant in
+    let td = ap (λ (x : DriverSees). x.ring) c.driver.view_is ∙ c.requires.rings.0 ∙ sym c.self.view_is in
     let slots = ap (λ x. x.slots) (sym td) ∙ dk.rack.size in let key = z.2 ∙ sym z.1 ∙ slots in
     let v0 : Rack = c.device.inside.rack in let vk : DeviceOk v0 = c.device.invariant in
-    let tv = ap (λ (x : DeviceSees). x.ring) c.device.view_is ∙ c.requires.1 in
+    let tv = ap (λ (x : DeviceSees). x.ring) c.device.view_is ∙ c.requires.rings.1 ∙ sym c.self.view_is in
     let slots_v = ap (λ x. x.slots) (sym tv) ∙ vk.rack.size in let key_v = z.2 ∙ sym z.1 ∙ slots_v in
     let told_me = c.split_seat-told.ensures.2 in let heard_me = c.split_seat-heard.ensures.4 in
     let m0 : c.join_seat.new.seat.me.0 ≡ hearing d0.seat.me.0 (note (seen_of v0)) = ap (λ (m : Mine). m.0) c.join_seat.ensures.2 ∙ (λ i. hearing (told_me i).0 (heard_me i).0) in
