@@ -1,13 +1,13 @@
 -- A hand after a step of its own.
-use Rattle.std.proofs.Common.{◌≡◌, ℕ, zero, suc, ◌+◌, ◌-◌, ◌%◌, ◌<◌, ◌≤◌, List, [], ◌∷◌, ◌++◌, map, length, take, drop, replicate, sym, refl, ap, ◌∙◌, subst, arith, append_assoc, append-nil, length-append, length-drop}
-use mathlib.Core.Option.{some, none}
+use Rattle.std.proofs.Common.{◌≡◌, ℕ, suc, ◌+◌, ◌-◌, ◌%◌, ◌<◌, ◌≤◌, List, [], ◌∷◌, ◌++◌, map, length, take, drop, replicate, sym, refl, ap, ◌∙◌, subst, arith, append_assoc, append-nil, length-append, length-drop}
+use mathlib.Core.Option.{none}
 use mathlib.Core.List.{IsPrefix}
-use Rattle.std.proofs.Math.Nat.{mod-add-mod, add-mod_right}
+use Rattle.std.proofs.Math.Nat.{add-mod_right}
 use Rattle.std.proofs.Math.Seq.{take-add}
 use lib.Seq.{drop-append-le}
 use Rattle.std.proofs.lemmas.List.{take-append-le}
-use Rattle.std.specs.Prelude.{Option, Some, None}
-use Rattle.atomic_table.specs.Table.{Me, Step, step}
+use Rattle.std.specs.Prelude.{Some, None}
+use Rattle.atomic_table.specs.Table.{Me, step}
 use Rattle.ifl_desc.specs.declared.desc.Desc.{Desc}
 use Rattle.ifl_desc.specs.declared.history.Side.{Side}
 use Rattle.ifl_desc.specs.declared.history.Side.TheVariants.{Driver, Device}
@@ -20,9 +20,9 @@ use Rattle.ifl_desc.specs.Rule.{Slot, laid, view, InOrder}
 use Rattle.ifl_desc.specs.Plays.{distance, valued, pushed, pulled}
 use Rattle.ifl_desc.specs.Calls.{Grew}
 use Rattle.ifl_desc.specs.Rack.{IsRack, placed, taken, seen_of, ahead, row, spin}
-use Rattle.ifl_desc.proofs.Steps.{sent_append, known_append, own_append, same_sent, same_known, take_length}
+use Rattle.ifl_desc.proofs.Steps.{sent_append, known_append, same_sent, same_known, take_length}
 use Rattle.ifl_desc.proofs.Turning.{spin_all}
-use Rattle.ifl_desc.proofs.Rows.{laid_append, laid_length, drop_front, map_length, map_append, row_length, slot_at}
+use Rattle.ifl_desc.proofs.Rows.{laid_append, laid_length, drop_front, map_length, map_append, row_length}
 use Rattle.ifl_desc.proofs.Racks.{known_there, ahead_length, made}
 use Rattle.ifl_desc.proofs.OwnSteps.{distance_is}
 

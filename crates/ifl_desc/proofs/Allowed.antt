@@ -1,20 +1,17 @@
 -- A side's step as `atomic_table` asks for it, whatever the words of the ring show.
-use Rattle.std.proofs.Common.{◌≡◌, ℕ, zero, suc, ◌+◌, ◌-◌, ◌%◌, ◌<◌, ◌≤◌, List, [], ◌∷◌, ◌++◌, map, length, set, get_or, take, drop, sym, refl, ap, ◌∙◌, subst, arith}
-use mathlib.Core.Option.{some}
+use Rattle.std.proofs.Common.{◌≡◌, ℕ, ◌≤◌, List, [], ◌∷◌, ◌++◌, map, length, set, get_or, sym, refl, ap, ◌∙◌, subst, arith}
 use mathlib.Core.List.{IsPrefix}
-use lib.ListN.{get_elem?}
-use Rattle.std.specs.Prelude.{Option, Some}
-use Rattle.atomic_table.specs.Table.{State, Me, Valid, homes_after, carried_after, Allows}
+use Rattle.std.specs.Prelude.{Some}
+use Rattle.atomic_table.specs.Table.{Me, Valid, homes_after, Allows}
 use Rattle.ifl_desc.specs.declared.desc.Desc.{Desc}
 use Rattle.ifl_desc.specs.declared.history.Side.{Side}
 use Rattle.ifl_desc.specs.declared.history.Side.TheVariants.{Driver, Device}
 use Rattle.ifl_desc.specs.declared.history.Event.{Event}
 use Rattle.ifl_desc.specs.declared.history.Event.TheVariants.{Sent, Looked}
-use Rattle.ifl_desc.specs.declared.history.Role.TheVariants.{End}
 use Rattle.ifl_desc.specs.declared.history.View.{View}
-use Rattle.ifl_desc.specs.History.{other, sent, known, own}
+use Rattle.ifl_desc.specs.History.{sent, known, own}
 use Rattle.ifl_desc.specs.Frames.{IsFine}
-use Rattle.ifl_desc.specs.Rule.{Slot, RingState, laid, gives_all, takes_all, view, InOrder, IsLawful, Tied}
+use Rattle.ifl_desc.specs.Rule.{Slot, laid, gives_all, takes_all, view, InOrder, IsLawful, Tied}
 use Rattle.ifl_desc.proofs.Slots.{Homes, places, given_homes, given_carried, given_valid, places_length, taken_carried, taken_length, taken_valid}
 use Rattle.ifl_desc.proofs.Steps.{Fits, Lies, Is, moved, same_sent, same_known, order_push, order_pull, push_home, pull_home, news, news_home, news_length, lawful_more}
 

@@ -1,11 +1,10 @@
 -- How a ring starts, and how its ends are made and meet.
-use Rattle.std.proofs.Common.{◌≡◌, ℕ, zero, suc, ◌+◌, ◌-◌, ◌%◌, ◌<◌, ◌≤◌, ◌≢◌, ◌⊎◌, inl, inr, ⊎_elim, List, [], ◌∷◌, ◌++◌, map, length, set, get_or, take, drop, replicate, sym, refl, ap, ◌∙◌, subst, arith, length-set, append-nil, append_assoc, mod-eq_of_lt}
+use Rattle.std.proofs.Common.{◌≡◌, ℕ, zero, suc, ◌+◌, ◌%◌, ◌<◌, ◌≤◌, ◌≢◌, ◌⊎◌, inl, inr, ⊎_elim, List, [], ◌∷◌, ◌++◌, map, length, set, get_or, replicate, sym, refl, ap, ◌∙◌, subst, arith, append-nil, mod-eq_of_lt}
 use mathlib.Core.Option.{some, none, some-injective, some-ne-none}
-use mathlib.Core.Option as maybe
 use mathlib.Core.List.{IsPrefix}
 use lib.ListN.{get_elem?, length-map, length-replicate}
-use Rattle.std.specs.Prelude.{Option, Some, None}
-use Rattle.atomic_table.specs.Table.{State, Me, Step, step, keeps, Valid, homes_after, opening, Allows, Splits, Joins}
+use Rattle.std.specs.Prelude.{Some, None}
+use Rattle.atomic_table.specs.Table.{step, keeps, homes_after, opening, Allows, Splits, Joins}
 use Rattle.atomic_table.proofs.Lists.{at_set, set_again}
 use Rattle.ifl_desc.specs.declared.desc.Desc.{Desc}
 use Rattle.ifl_desc.specs.declared.history.Side.{Side}
@@ -15,7 +14,7 @@ use Rattle.ifl_desc.specs.declared.history.Role.{Role}
 use Rattle.ifl_desc.specs.declared.history.Role.TheVariants.{Whole, Full, End, Note, Closing}
 use Rattle.ifl_desc.specs.declared.history.View.{View}
 use Rattle.ifl_desc.specs.History.{other, sent, known, own}
-use Rattle.ifl_desc.specs.Rule.{Slot, RingState, laid, takes_all, view, InOrder, IsLawful, Acts, Knows, Tied}
+use Rattle.ifl_desc.specs.Rule.{Slot, laid, takes_all, view, InOrder, IsLawful, Acts, Knows, Tied}
 use Rattle.ifl_desc.specs.Plays.{filled, saw, note, hearing, whole, full}
 use Rattle.ifl_desc.proofs.Slots.{Homes, taken_carried, taken_length, taken_valid}
 use Rattle.ifl_desc.proofs.Steps.{self}

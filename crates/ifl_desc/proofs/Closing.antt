@@ -1,5 +1,5 @@
 -- What a closed ring leaves, by what its two ends knew.
-use Rattle.std.proofs.Common.{◌≡◌, ℕ, zero, suc, ◌+◌, ◌-◌, ◌<◌, ◌≤◌, List, [], ◌∷◌, ◌++◌, length, take, drop, sym, refl, ap, ◌∙◌, subst, arith, append_assoc, append-nil, length-append, length-drop}
+use Rattle.std.proofs.Common.{◌≡◌, ℕ, zero, suc, ◌+◌, ◌-◌, ◌≤◌, List, [], ◌∷◌, ◌++◌, length, take, drop, sym, refl, ap, ◌∙◌, subst, arith, append_assoc, append-nil, length-append, length-drop}
 use mathlib.Core.List.{IsPrefix}
 use lib.Seq.{drop-append-le}
 use Rattle.ifl_desc.specs.declared.desc.Desc.{Desc}
@@ -10,7 +10,7 @@ use Rattle.ifl_desc.specs.declared.rack.Rack.{Rack}
 use Rattle.ifl_desc.specs.History.{other, sent, known, own}
 use Rattle.ifl_desc.specs.Frames.{IsShort}
 use Rattle.ifl_desc.specs.Rule.{InOrder, IsLawful}
-use Rattle.ifl_desc.specs.Rack.{IsRack, placed, taken, seen_of, ahead}
+use Rattle.ifl_desc.specs.Rack.{placed, taken, seen_of, ahead}
 use Rattle.ifl_desc.specs.Sides.{driver_of, device_of, DriverOk, DeviceOk}
 use mathlib.Core.Option.{none}
 use Rattle.atomic_table.specs.Table.{step}

@@ -1,32 +1,22 @@
 -- The device's end after each of its calls.
-use Rattle.std.proofs.Common.{◌≡◌, ℕ, zero, suc, ◌+◌, ◌-◌, ◌%◌, ◌<◌, ◌≤◌, Bool, true, false, cond, List, [], ◌∷◌, ◌++◌, map, length, take, drop, set, get_or, replicate, sym, refl, ap, ◌∙◌, subst, arith, length-set, append-nil, append_assoc, get_or-set_other, get_or-set_same, length-append}
-use mathlib.Core.Option.{some, none}
-use mathlib.Core.List.{IsPrefix}
-use Rattle.std.specs.Prelude.{Option, Some, None}
-use Rattle.atomic_table.specs.Table.{Me, step, Allows}
+use Rattle.std.proofs.Common.{◌≡◌, ℕ, ◌+◌, ◌-◌, ◌%◌, ◌<◌, ◌≤◌, Bool, true, false, cond, List, [], ◌∷◌, ◌++◌, length, sym, ap, ◌∙◌, subst, arith, append-nil, length-append}
+use mathlib.Core.Option.{none}
+use Rattle.atomic_table.specs.Table.{Me, step}
 use Rattle.ifl_desc.specs.declared.desc.Desc.{Desc}
-use Rattle.ifl_desc.specs.declared.history.Side.{Side}
 use Rattle.ifl_desc.specs.declared.history.Side.TheVariants.{Driver, Device}
 use Rattle.ifl_desc.specs.declared.history.Event.{Event}
 use Rattle.ifl_desc.specs.declared.history.Event.TheVariants.{Sent, Looked}
 use Rattle.ifl_desc.specs.declared.history.View.{View}
 use Rattle.ifl_desc.specs.declared.rack.Rack.{Rack}
-use Rattle.ifl_desc.specs.History.{other, sent, known, own, looks}
-use Rattle.ifl_desc.specs.Frames.{IsFine, IsBegun, IsFrame, IsSettled}
-use Rattle.ifl_desc.specs.Rule.{Slot, laid, InOrder, IsLawful, Tied}
+use Rattle.ifl_desc.specs.History.{sent, known}
+use Rattle.ifl_desc.specs.Frames.{IsBegun, IsFrame, IsSettled}
+use Rattle.ifl_desc.specs.Rule.{Slot, laid, IsLawful}
 use Rattle.ifl_desc.specs.Plays.{distance, pushed, pulled}
 use Rattle.ifl_desc.specs.Ends.{DeviceSees, IsDevice, completed}
 use Rattle.ifl_desc.specs.Calls.{Grew, Fetches, Completes}
 use Rattle.ifl_desc.specs.Rack.{IsRack, SameSeat, placed, taken, seen_of, spin}
-use Rattle.ifl_desc.proofs.Steps.{Fits, sent_append, known_append, same_sent}
-use Rattle.ifl_desc.proofs.Allowed.{Has}
-use Rattle.ifl_desc.proofs.OwnSteps.{rack_pushes, rack_pulls, looked_sent}
 use Rattle.ifl_desc.proofs.Rows.{slot_at}
-use Rattle.std.proofs.Math.Nat.{add-mod_right}
-use native.Mathlib.Decide.{ℕ_discrete}
-use mathlib.Core.Logic.{dite}
-use lib.Seq.{set-get_or}
-use Rattle.ifl_desc.proofs.AfterSteps.{push_done, pull_done, grew_sent, grew_known, grew_prefix, grew_other, grew_looks, kept_sent, more_known, laid_shift}
+use Rattle.ifl_desc.proofs.AfterSteps.{push_done, pull_done, grew_sent, grew_known, kept_sent, more_known}
 use Rattle.ifl_desc.specs.Sides.{device_of, DeviceOk}
 use Rattle.ifl_desc.proofs.DriverCalls.{last_is}
 

@@ -1,11 +1,9 @@
 -- How a ring ends.
-use Rattle.std.proofs.Common.{◌≡◌, ℕ, zero, suc, ◌+◌, ◌-◌, ◌%◌, ◌<◌, ◌≤◌, ◌≢◌, ◌⊎◌, inl, inr, ⊎_elim, List, [], ◌∷◌, ◌++◌, map, length, set, get_or, sym, refl, ap, ◌∙◌, subst, arith, append-nil}
-use mathlib.Core.Option.{some, none, some-ne-none}
-use mathlib.Core.Option as maybe
+use Rattle.std.proofs.Common.{◌≡◌, ℕ, ◌+◌, ◌%◌, ◌<◌, ◌≤◌, ◌≢◌, ◌⊎◌, inl, inr, ⊎_elim, List, [], ◌++◌, length, set, get_or, sym, refl, ap, ◌∙◌, subst, arith, append-nil}
+use mathlib.Core.Option.{some, none}
 use mathlib.Core.List.{IsPrefix}
 use lib.ListN.{get_elem?}
-use Rattle.std.specs.Prelude.{Option, Some, None}
-use Rattle.atomic_table.specs.Table.{State, Me, step, Valid, homes_after, carried_after, keeps, Allows, Joins}
+use Rattle.atomic_table.specs.Table.{step, homes_after, keeps, Allows, Joins}
 use Rattle.atomic_table.proofs.Lists.{at_set}
 use Rattle.ifl_desc.specs.declared.desc.Desc.{Desc}
 use Rattle.ifl_desc.specs.declared.history.Side.{Side}
@@ -14,8 +12,8 @@ use Rattle.ifl_desc.specs.declared.history.Event.{Event}
 use Rattle.ifl_desc.specs.declared.history.Role.{Role}
 use Rattle.ifl_desc.specs.declared.history.Role.TheVariants.{Whole, Full, End, Note, Closing}
 use Rattle.ifl_desc.specs.declared.history.View.{View}
-use Rattle.ifl_desc.specs.History.{other, sent, known, own}
-use Rattle.ifl_desc.specs.Rule.{Slot, RingState, laid, gives_all, view, InOrder, Acts, Knows, Tied}
+use Rattle.ifl_desc.specs.History.{other, sent, known}
+use Rattle.ifl_desc.specs.Rule.{Slot, laid, gives_all, view, InOrder, Acts, Knows, Tied}
 use Rattle.ifl_desc.specs.Plays.{retired, note, closing, gathered}
 use Rattle.ifl_desc.proofs.Slots.{Homes, Misses, places, given_homes, given_carried, given_valid, places_length, places_else}
 use Rattle.ifl_desc.proofs.Steps.{AtHome, far, at_below, in_window, same_sent, same_known}

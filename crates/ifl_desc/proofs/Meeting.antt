@@ -1,24 +1,21 @@
 -- The ends after they met.
-use Rattle.std.proofs.Common.{◌≡◌, ℕ, zero, suc, ◌+◌, ◌-◌, ◌%◌, ◌<◌, ◌≤◌, List, [], ◌∷◌, ◌++◌, map, length, set, get_or, replicate, sym, refl, ap, ◌∙◌, subst, arith, length-set, mod-eq_of_lt}
-use mathlib.Core.Option.{some, none}
+use Rattle.std.proofs.Common.{◌≡◌, ℕ, List, length, sym, ap, ◌∙◌, subst, arith}
+use mathlib.Core.Option.{none}
 use mathlib.Core.List.{IsPrefix}
-use Rattle.std.specs.Prelude.{Option, Some, None}
-use Rattle.atomic_table.specs.Table.{Me, step, opening, Allows, Splits, Joins}
-use Rattle.ifl_desc.specs.declared.desc.Desc.{Desc}
+use Rattle.atomic_table.specs.Table.{Me, step}
 use Rattle.ifl_desc.specs.declared.history.Side.{Side}
 use Rattle.ifl_desc.specs.declared.history.Side.TheVariants.{Driver, Device}
 use Rattle.ifl_desc.specs.declared.history.Event.{Event}
 use Rattle.ifl_desc.specs.declared.history.View.{View}
 use Rattle.ifl_desc.specs.declared.rack.Rack.{Rack}
-use Rattle.ifl_desc.specs.History.{other, sent, known, own}
+use Rattle.ifl_desc.specs.History.{own}
 use Rattle.ifl_desc.specs.Frames.{IsShort, IsBegun}
-use Rattle.ifl_desc.specs.Rule.{Slot, view, InOrder, IsLawful}
-use Rattle.ifl_desc.specs.Plays.{filled, saw, note, hearing, whole, full}
+use Rattle.ifl_desc.specs.Rule.{Slot, InOrder, IsLawful}
+use Rattle.ifl_desc.specs.Plays.{saw, note, hearing}
 use Rattle.ifl_desc.specs.Rack.{IsRack, placed, taken, seen_of}
 use Rattle.ifl_desc.proofs.Steps.{same_sent, same_known}
-use Rattle.ifl_desc.proofs.Beginning.{starts, fills, parts, notes, joins, sees}
 use Rattle.ifl_desc.proofs.AfterSteps.{saw_done}
-use Rattle.ifl_desc.specs.Sides.{driver_of, device_of, DriverOk, DeviceOk}
+use Rattle.ifl_desc.specs.Sides.{DriverOk, DeviceOk}
 
 abbrev pub Mine : Type 0
 Mine = Me Slot View

@@ -1,19 +1,17 @@
 -- What a hand's own step asks and tells.
-use Rattle.std.proofs.Common.{◌≡◌, ℕ, zero, suc, ◌+◌, ◌-◌, ◌%◌, ◌<◌, ◌≤◌, List, [], ◌∷◌, ◌++◌, map, length, take, drop, set, get_or, replicate, sym, refl, ap, ◌∙◌, subst, arith, mod-lt, mod-eq_of_lt, append_assoc, append-nil, length-drop, length-append}
+use Rattle.std.proofs.Common.{◌≡◌, ℕ, zero, suc, ◌+◌, ◌-◌, ◌%◌, ◌<◌, ◌≤◌, List, [], ◌∷◌, ◌++◌, map, length, take, drop, set, get_or, replicate, sym, refl, ap, ◌∙◌, subst, arith, mod-lt, mod-eq_of_lt, append-nil, length-append}
 use mathlib.Core.Logic.{dite}
-use mathlib.Core.Option.{some, none}
+use mathlib.Core.Option.{none}
 use mathlib.Core.List.{IsPrefix}
 use native.Mathlib.Decide.{dec_le}
-use lib.ListN.{get_elem?}
 use Rattle.std.proofs.Math.Nat.{mod-add-mod, add-mod_right}
-use Rattle.std.specs.Prelude.{Option, Some, None}
-use Rattle.atomic_table.specs.Table.{Me, Step, step, Allows}
+use Rattle.std.specs.Prelude.{Some, None}
+use Rattle.atomic_table.specs.Table.{Me, step, Allows}
 use Rattle.ifl_desc.specs.declared.desc.Desc.{Desc}
 use Rattle.ifl_desc.specs.declared.history.Side.{Side}
 use Rattle.ifl_desc.specs.declared.history.Side.TheVariants.{Driver, Device}
 use Rattle.ifl_desc.specs.declared.history.Event.{Event}
 use Rattle.ifl_desc.specs.declared.history.Event.TheVariants.{Sent, Looked}
-use Rattle.ifl_desc.specs.declared.history.Role.TheVariants.{End}
 use Rattle.ifl_desc.specs.declared.history.View.{View}
 use Rattle.ifl_desc.specs.declared.rack.Rack.{Rack}
 use Rattle.ifl_desc.specs.History.{other, sent, known, own}
@@ -21,8 +19,8 @@ use Rattle.ifl_desc.specs.Frames.{IsFine}
 use Rattle.ifl_desc.specs.Rule.{Slot, laid, view, InOrder, Tied}
 use Rattle.ifl_desc.specs.Plays.{distance, valued, pushed, pulled}
 use Rattle.ifl_desc.specs.Calls.{Grew}
-use Rattle.ifl_desc.specs.Rack.{IsRack, placed, taken, seen_of, ahead, row}
-use Rattle.ifl_desc.proofs.Steps.{Fits, Lies, sent_append, known_append, own_append, same_sent, same_known, news, tells}
+use Rattle.ifl_desc.specs.Rack.{IsRack, placed, seen_of, ahead}
+use Rattle.ifl_desc.proofs.Steps.{Fits, sent_append, known_append, own_append, same_known, tells}
 use Rattle.ifl_desc.proofs.Allowed.{Has, pushing, pulling}
 use Rattle.ifl_desc.proofs.Rows.{laid_append, laid_length, placed_is, map_length}
 use Rattle.ifl_desc.proofs.Racks.{known_there}

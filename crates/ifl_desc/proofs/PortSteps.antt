@@ -1,17 +1,17 @@
 -- The steps of a port keep its rule.
-use Rattle.std.proofs.Common.{◌≡◌, ℕ, zero, suc, ◌<◌, ◌≤◌, ◌≢◌, ◌⊎◌, inl, inr, ⊎_elim, List, [], ◌∷◌, ◌++◌, map, length, set, get_or, sym, refl, ap, ◌∙◌, subst, arith, append-nil, append_assoc}
+use Rattle.std.proofs.Common.{◌≡◌, ℕ, suc, ◌≢◌, ⊎_elim, List, [], ◌∷◌, ◌++◌, length, set, get_or, sym, refl, ap, ◌∙◌, subst, arith, append-nil, append_assoc}
 use mathlib.Core.Option.{some, none, some-injective, some-ne-none}
 use mathlib.Core.List.{IsPrefix}
 use lib.ListN.{get_elem?}
 use Rattle.std.specs.Prelude.{Option, Some, None}
-use Rattle.atomic_table.specs.Table.{State, Me, step, keeps, opening, Allows, Splits, Joins, Final, Seen}
+use Rattle.atomic_table.specs.Table.{step, keeps, opening, Allows, Splits, Joins, Final, Seen}
 use Rattle.atomic_table.proofs.Lists.{at_set}
 use Rattle.ifl_desc.specs.declared.port.PortState.{PortState}
 use Rattle.ifl_desc.specs.declared.port.PortState.TheVariants.{Up, Down, Flush}
 use Rattle.ifl_desc.specs.declared.signals.PortRole.{PortRole}
 use Rattle.ifl_desc.specs.declared.signals.PortRole.TheVariants.{Whole, Writer, Reader, Both}
 use Rattle.ifl_desc.specs.declared.signals.PortView.{PortView}
-use Rattle.ifl_desc.specs.Port.{code_of, MayFollow, last_after, IsLegalAfter, state_of, IsSetting, Knows, Sets, Ported, Mine, whole_view, writer_view, reader_view, both_ends, stored, found_state}
+use Rattle.ifl_desc.specs.Port.{code_of, MayFollow, last_after, IsLegalAfter, state_of, IsSetting, Knows, Sets, Ported, whole_view, writer_view, reader_view, both_ends, stored, found_state}
 use Rattle.ifl_desc.proofs.Beginning.{at_end}
 
 last_added : (p s : PortState) (xs : List PortState) → last_after p (xs ++ s ∷ []) ≡ s

@@ -1,14 +1,12 @@
 -- A side's step keeps the rule.
-use Rattle.std.proofs.Common.{◌≡◌, ℕ, zero, suc, ◌+◌, ◌-◌, ◌%◌, ◌<◌, ◌≤◌, ◌≢◌, ◌⊎◌, inl, inr, ⊎_elim, List, [], ◌∷◌, ◌++◌, map, length, set, take, drop, sym, refl, ap, ◌∙◌, subst, mod-lt, arith, length-set, length-append, length-drop, append_assoc, append-nil}
+use Rattle.std.proofs.Common.{◌≡◌, ℕ, zero, suc, ◌+◌, ◌%◌, ◌<◌, ◌≤◌, ◌≢◌, ◌⊎◌, inl, inr, ⊎_elim, List, [], ◌∷◌, ◌++◌, map, length, set, take, drop, sym, refl, ap, ◌∙◌, subst, arith, length-append, length-drop, append_assoc, append-nil}
 use mathlib.Core.Logic.{dite}
-use mathlib.Core.Option.{some, none, some-injective, some-ne-none}
-use mathlib.Core.Option as maybe
+use mathlib.Core.Option.{some, some-injective, some-ne-none}
 use mathlib.Core.List.{IsPrefix}
 use native.Mathlib.Decide.{dec_le}
 use lib.ListN.{get_elem?, length-map}
 use Rattle.std.proofs.lemmas.List.{take-append-le}
-use Rattle.std.specs.Prelude.{Option, Some, None}
-use Rattle.atomic_table.specs.Table.{State}
+use Rattle.std.specs.Prelude.{Some}
 use Rattle.atomic_table.proofs.Lists.{at_set, at_map}
 use Rattle.ifl_desc.specs.declared.desc.Desc.{Desc}
 use Rattle.ifl_desc.specs.declared.history.Side.{Side}
@@ -20,9 +18,9 @@ use Rattle.ifl_desc.specs.declared.history.Role.TheVariants.{Whole, Full, End, N
 use Rattle.ifl_desc.specs.declared.history.View.{View}
 use Rattle.ifl_desc.specs.History.{other, sent_in, known_in, own_in, sent, known, own}
 use Rattle.ifl_desc.specs.Frames.{IsFine, AllFine}
-use Rattle.ifl_desc.specs.Rule.{Slot, RingState, laid, gives_all, takes_all, view, Order, InOrder, IsLawful, Acts, Knows, Tied}
-use Rattle.atomic_table.specs.Table.{Valid, homes_after, carried_after}
-use Rattle.ifl_desc.proofs.Slots.{apart, Homes, Misses, places, given_homes, given_carried, given_valid, places_length, places_else, places_here, taken_carried, taken_length, taken_else, taken_valid}
+use Rattle.ifl_desc.specs.Rule.{Slot, RingState, takes_all, view, InOrder, IsLawful, Acts, Knows, Tied}
+use Rattle.atomic_table.specs.Table.{homes_after}
+use Rattle.ifl_desc.proofs.Slots.{apart, Homes, Misses, places, places_else, places_here, taken_else}
 
 pub sent_append : (r : Side) (g h : List Event) → sent r (g ++ h) ≡ sent r g ++ sent r h
 sent_append r [] h = refl

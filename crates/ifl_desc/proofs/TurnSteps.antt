@@ -1,17 +1,16 @@
 -- The steps of a turnstile keep its rule.
-use Rattle.std.proofs.Common.{◌≡◌, ℕ, zero, suc, ◌+◌, ◌-◌, ◌<◌, ◌≤◌, ◌≢◌, ◌⊎◌, inl, inr, ⊎_elim, Bool, true, false, eqb, List, [], ◌∷◌, ◌++◌, map, length, set, get_or, sym, refl, ap, ◌∙◌, subst, arith, length-set, length-append, get_or-set_same, ◌/◌}
+use Rattle.std.proofs.Common.{◌≡◌, ℕ, zero, suc, ◌+◌, ◌-◌, ◌<◌, ◌≤◌, ◌≢◌, ◌⊎◌, inl, inr, ⊎_elim, Bool, true, false, eqb, List, [], ◌∷◌, ◌++◌, length, set, get_or, sym, refl, ap, ◌∙◌, subst, arith, length-set, length-append, get_or-set_same, ◌/◌}
 use Rattle.std.proofs.Math.Nat.{div-le_self}
 use mathlib.Core.Option.{some, none, some-injective, some-ne-none}
 use mathlib.Core.Option as maybe
 use lib.ListN.{get_elem?}
-use lib.Seq.{set-get_or}
 use prog.Atomic.{either}
 use Rattle.std.specs.Prelude.{Option, Some, None}
-use Rattle.atomic_table.specs.Table.{State, Me, Act, step, keeps, takes, gives, Valid, carried_after, stepped, opening, Allows, Splits, Joins, Final, Seen, rest}
-use Rattle.atomic_table.proofs.Lists.{at_set, set_here, set_again, exchanged}
+use Rattle.atomic_table.specs.Table.{State, Act, step, keeps, takes, gives, Valid, carried_after, stepped, Allows, Splits, Joins, Final, Seen}
+use Rattle.atomic_table.proofs.Lists.{at_set, set_here, exchanged}
 use Rattle.ifl_base.specs.declared.limits.TheConstants.{PART}
 use Rattle.ifl_desc.specs.declared.turns.TurnView.{TurnView}
-use Rattle.ifl_desc.specs.Turning.{parts, first_view, Mine, InPhase, Turning, Got, tried, gave, left_half, right_half, both_parts, looked_at, nobody}
+use Rattle.ifl_desc.specs.Turning.{parts, Mine, InPhase, Turning, tried, gave, left_half, right_half, both_parts, looked_at, nobody}
 
 at_below : {A : Type 0} (l : List A) (i : ℕ) (a : A) → get_elem? l i ≡ some a → i < length l
 at_below [] i a e = absurd (some-ne-none a (sym e))

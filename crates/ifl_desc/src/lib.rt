@@ -1,4 +1,11 @@
-//! Rings of descriptors between a driver and a device, whatever words the adapter shares with it.
+//! Rings of descriptors between a driver and a device, and the turnstile and the port that stand beside them.
+//!
+//! It stands on `ifl_base` and `ifl_mbuf` for tickets and segments, and on `atomic_table` for words and slots. Its
+//! one contract is [`DescRing`]: a ring is one list of posted descriptors with five lengths, kept by one history of
+//! both sides' steps, of which each end has seen a beginning. The rule of a ring, the racks in which its ends hold
+//! their slots and the lemmas on both stand here for any words, so that an adapter adds only what its words show of
+//! the history. A [`Turnstile`] keeps a value that one seat has at a time, and a [`Port`] a state that one end sets
+//! and the other looks at.
 #![tactic(auto)]
 
 mod closed;
@@ -10,6 +17,8 @@ mod rack;
 mod remains;
 mod ring;
 mod signals;
+#[cfg(test)]
+mod tests;
 mod turns;
 mod turnstile;
 
@@ -23,4 +32,4 @@ pub use port::{Port, PortReader, PortState, PortWriter};
 pub use rack::{EndSeat, Rack};
 pub use remains::Remains;
 pub use ring::DescRing;
-pub use turnstile::{Kept, Taken, Turnstile, TurnSeat};
+pub use turnstile::{Kept, Taken, TurnSeat, Turnstile};

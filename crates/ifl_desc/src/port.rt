@@ -118,9 +118,7 @@ impl Port {
         ensures set { w.new ≡ record w.old { known = w.old.known ++ s ∷ [] } }
         ensures lawful { IsSetting w.new.known }
     {
-        self.table
-            .shared
-            .store::<Stores>(&mut w.seat, 0, s.code());
+        self.table.shared.store::<Stores>(&mut w.seat, 0, s.code());
     }
 
     /// The last state that was set when this one load was made.

@@ -65,10 +65,7 @@ pub struct Taken {
 
 impl<E: Kept> Turnstile<E> {
     /// A turnstile that keeps `e`, with the whole seat. Where there is no memory, `e` comes back.
-    pub fn new(
-        alloc: Global,
-        e: E,
-    ) -> Result<(Turnstile<E>, TurnSeat<E>), (NoMemory, E)>
+    pub fn new(alloc: Global, e: E) -> Result<(Turnstile<E>, TurnSeat<E>), (NoMemory, E)>
         ensures origin { IfOk result (λ t. t.0.origin ≡ Some (E.origin e)) }
         ensures whole { IfOk result (λ t. t.1 ≡ record { turnstile = t.0; part = PART; held = false; looks = 0 }) }
         ensures back { IfErr result (λ x. x.1 ≡ e) }

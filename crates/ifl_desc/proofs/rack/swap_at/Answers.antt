@@ -1,4 +1,4 @@
-use Rattle.std.proofs.Common.{◌≡◌, ℕ, ◌≤◌, ◌<◌, ◌-◌, ◌∷◌, ◌∙◌, ap, sym, arith, drop, suc}
+use Rattle.std.proofs.Common.{◌≡◌, ℕ, ◌-◌, ◌∷◌, ◌∙◌, ap, arith, drop, suc}
 use Rattle.ifl_desc.specs.Rule.{Slot}
 use Rattle.ifl_desc.specs.Rack.{spin}
 use Rattle.ifl_desc.proofs.Turning.{to_front, back_again, same_value}

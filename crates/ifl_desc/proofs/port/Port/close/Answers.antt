@@ -1,8 +1,7 @@
-use Rattle.std.proofs.Common.{◌≡◌, ℕ, ◌<◌, ◌∙◌, ap, sym, arith, subst, refl, ◌∷◌, List, []}
+use Rattle.std.proofs.Common.{◌∙◌, ap, sym, arith, subst, []}
 use Rattle.ifl_desc.specs.declared.signals.PortView.{PortView}
-use Rattle.ifl_desc.specs.declared.port.PortState.{PortState}
 use mathlib.Core.List.{IsPrefix}
-use Rattle.ifl_desc.specs.Port.{WriterState, ReaderState, Ported, Mine, code_of, state_of, both_ends, reader_view, IsSetting}
+use Rattle.ifl_desc.specs.Port.{WriterState, ReaderState, Ported, Mine, code_of, state_of, both_ends, reader_view}
 use Rattle.std.specs.Prelude.{None}
 use Rattle.atomic_table.specs.Table.{Joins}
 use Rattle.ifl_desc.proofs.PortSteps.{shuts, closed}

@@ -1,4 +1,4 @@
-use Rattle.std.proofs.Common.{◌≡◌, ℕ, ◌<◌, ◌∙◌, ap, sym, arith, subst, refl, ◌∷◌, List, []}
+use Rattle.std.proofs.Common.{ap, sym, arith, subst, []}
 use Rattle.std.specs.Prelude.{None}
 use Rattle.atomic_table.specs.Table.{Splits}
 use Rattle.ifl_desc.specs.Port.{Ported, Mine, writer_view, reader_view}

@@ -1,4 +1,4 @@
-use Rattle.std.proofs.Common.{◌≡◌, ℕ, ◌<◌, ◌∙◌, ap, sym, arith, subst, refl, ◌∷◌, List, []}
+use Rattle.std.proofs.Common.{ℕ, ◌∙◌, ap, sym, arith, subst, List}
 use Rattle.atomic_table.specs.Table.{Me, step, Allows}
 use mathlib.Core.Option.{none}
 use Rattle.ifl_desc.specs.declared.signals.PortView.{PortView}

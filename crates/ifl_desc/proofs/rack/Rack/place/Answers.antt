@@ -1,6 +1,5 @@
-use Rattle.std.proofs.Common.{◌≡◌, ℕ, ◌<◌, ◌∙◌, ap, sym, arith, refl, suc, ◌∷◌, drop, rules}
-use Rattle.std.specs.Prelude.{None, Some}
-use Rattle.ifl_desc.specs.Rule.{Slot}
+use Rattle.std.proofs.Common.{◌∙◌, sym, arith, refl}
+use Rattle.std.specs.Prelude.{None}
 use Rattle.ifl_desc.proofs.Turning.{same_head}
 use Rattle.ifl_desc.proofs.Racks.{counted, place_there, place_done}
 use Rattle.ifl_desc.proofs.rack.Rack.place.Goals as goal

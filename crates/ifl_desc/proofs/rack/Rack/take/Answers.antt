@@ -1,6 +1,6 @@
-use Rattle.std.proofs.Common.{◌≡◌, ℕ, ◌<◌, ◌∙◌, ap, sym, arith, refl, suc, ◌∷◌, drop, rules}
+use Rattle.std.proofs.Common.{◌≡◌, ◌∙◌, ap, sym, arith, refl}
 use mathlib.Core.Option.{some}
-use Rattle.std.specs.Prelude.{None, Some}
+use Rattle.std.specs.Prelude.{Some}
 use Rattle.std.specs.Option.{unwrap_or}
 use Rattle.ifl_desc.specs.Rule.{Slot}
 use Rattle.ifl_desc.proofs.Turning.{same_head}

@@ -1,4 +1,4 @@
-use Rattle.std.proofs.Common.{◌≡◌, ℕ, ◌+◌, ◌++◌, length}
+use Rattle.std.proofs.Common.{◌≡◌, ◌+◌, ◌++◌, length}
 use Rattle.std.specs.Prelude.{vec_capacity}
 use Rattle.ifl_desc.specs.declared.rack.Rack.{Rack}
 use Rattle.ifl_desc.specs.Rack.{IsRack, SameSeat, placed, seen_of, ahead}

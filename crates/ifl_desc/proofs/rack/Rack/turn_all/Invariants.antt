@@ -1,4 +1,4 @@
-use Rattle.std.proofs.Common.{◌≡◌, ℕ, ◌-◌}
+use Rattle.std.proofs.Common.{◌≡◌}
 use Rattle.ifl_desc.specs.Rack.{SameSeat, spin}
 use Rattle.ifl_desc.proofs.rack.Rack.turn_all.Given as goal
 

@@ -1,4 +1,4 @@
-use Rattle.std.proofs.Common.{◌≡◌, ℕ, suc, ◌+◌, ◌-◌, ◌%◌, ◌<◌, ◌≤◌, ◌∙◌, ap, sym, arith, refl, subst, List, [], ◌∷◌, ◌++◌, length, take, drop, append_assoc, length-append}
+use Rattle.std.proofs.Common.{◌≡◌, ℕ, suc, ◌+◌, ◌%◌, ◌∙◌, ap, sym, arith, refl, List, [], ◌∷◌, ◌++◌, length, take, drop, append_assoc, length-append}
 use mathlib.Core.Option.{some}
 use Rattle.std.specs.Prelude.{Some, None}
 use Rattle.std.specs.Option.{unwrap_or}
@@ -42,7 +42,7 @@ loop-at-preserved g c =
       (s.0 ∙ i.0.0, s.1 ∙ i.0.1, s.2 ∙ i.0.2),
       c.swap_at-old.ensures.slots ∙ (λ j. take n m ++ ((i.8 j + n) % i.9 j, None) ∷ drop (suc n) m) ∙ unload_next r h k n lt m i.1 ∙ ap (unloaded r h k) next,
       c.push_reserved.ensures.items ∙ ap (λ (z : List Desc). z ++ d ∷ []) i.2 ∙ append_assoc before (take n (placed h)) (d ∷ [])
-      ∙ ap (λ (z : List Desc). before ++ z) (sym (take_one (placed h) n d (f.1 ∙ ap some same)) ∙ ap (λ (z : ℕ). take z (placed h)) next),
+          ∙ ap (λ (z : List Desc). before ++ z) (sym (take_one (placed h) n d (f.1 ∙ ap some same)) ∙ ap (λ (z : ℕ). take z (placed h)) next),
       c.push_reserved.ensures.capacity ∙ i.3,
       ap length c.push_reserved.ensures.items ∙ length-append old (d ∷ []) ∙ (let l = i.4 in omega arith),
       i.5,

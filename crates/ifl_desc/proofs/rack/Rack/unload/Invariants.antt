@@ -1,9 +1,9 @@
-use Rattle.std.proofs.Common.{◌≡◌, ℕ, ◌+◌, ◌++◌, length, take, drop, map, replicate}
+use Rattle.std.proofs.Common.{◌≡◌, ◌+◌, ◌++◌, length, take, drop, map, replicate}
 use Rattle.std.specs.Prelude.{vec_capacity, Some, None}
 use Rattle.ifl_desc.specs.declared.rack.Rack.{Rack}
 use Rattle.ifl_desc.specs.History.{sent}
 use Rattle.ifl_desc.specs.Rule.{laid}
-use Rattle.ifl_desc.specs.Rack.{IsRack, SameSeat, placed, seen_of, ahead}
+use Rattle.ifl_desc.specs.Rack.{SameSeat, placed, seen_of, ahead}
 use Rattle.ifl_desc.proofs.rack.Rack.unload.Given as goal
 
 abbrev pub invariant-loop-at : goal.invariant-loop-at

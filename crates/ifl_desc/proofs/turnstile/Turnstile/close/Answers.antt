@@ -1,4 +1,4 @@
-use Rattle.std.proofs.Common.{◌≡◌, ℕ, ◌<◌, ◌-◌, ◌/◌, ◌∙◌, ap, sym, arith, subst, refl, ◌∷◌, List, [], true, false}
+use Rattle.std.proofs.Common.{◌∙◌, ap, sym}
 use mathlib.Core.Option.{some-injective}
 use Rattle.std.specs.Prelude.{Some}
 use Rattle.ifl_desc.specs.Turns.{TurnState, TurnstileId}

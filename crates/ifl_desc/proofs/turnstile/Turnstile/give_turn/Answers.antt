@@ -1,4 +1,4 @@
-use Rattle.std.proofs.Common.{◌≡◌, ℕ, ◌<◌, ◌-◌, ◌/◌, ◌∙◌, ap, sym, arith, subst, refl, ◌∷◌, List, [], true, false}
+use Rattle.std.proofs.Common.{◌∙◌, ap, sym, arith, ◌∷◌}
 use Rattle.std.specs.Prelude.{Some}
 use Rattle.atomic_table.specs.Table.{rest}
 use Rattle.ifl_desc.specs.Turns.{TurnState, TurnstileId, slots_of}
@@ -13,5 +13,5 @@ store-requires g c =
       c.exchange.ensures.0 ∙ ap (λ (z : TurnState _). z.turnstile.table) c.seat.view_is ∙ ap (λ (z : TurnstileId _). z.table) own,
       (let w = c.self.invariant.0 in omega arith),
       gives_turn _ _ _ _ _ c.args.e c.self.invariant.1 (ap (λ z. z.holds) v ∙ holds) (ap (λ m. m.1) ex ∙ ap (λ z. (0, Some c.args.e) ∷ rest z) (c.seat.invariant.slots ∙ ap slots_of holds))
-      (ap (λ z. z.origin) v ∙ ap (λ (z : TurnState _). z.turnstile.origin) c.seat.view_is ∙ ap (λ (z : TurnstileId _). z.origin) c.requires.own ∙ c.requires.origin),
+          (ap (λ z. z.origin) v ∙ ap (λ (z : TurnState _). z.turnstile.origin) c.seat.view_is ∙ ap (λ (z : TurnstileId _). z.origin) c.requires.own ∙ c.requires.origin),
     )

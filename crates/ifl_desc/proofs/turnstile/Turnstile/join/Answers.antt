@@ -1,4 +1,4 @@
-use Rattle.std.proofs.Common.{◌≡◌, ℕ, ◌<◌, ◌-◌, ◌/◌, ◌∙◌, ap, sym, arith, subst, refl, ◌∷◌, List, [], true, false}
+use Rattle.std.proofs.Common.{◌∙◌, ap, sym, arith}
 use Rattle.ifl_desc.specs.Turns.{TurnState, TurnstileId, slots_of}
 use Rattle.ifl_desc.proofs.TurnSteps.{adds}
 use Rattle.ifl_desc.proofs.turnstile.Turnstile.join.Goals as goal

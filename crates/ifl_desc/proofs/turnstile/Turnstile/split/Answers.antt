@@ -1,5 +1,5 @@
-use Rattle.std.proofs.Common.{◌≡◌, ℕ, ◌<◌, ◌-◌, ◌/◌, ◌∙◌, ap, sym, arith, subst, refl, ◌∷◌, List, [], true, false}
-use Rattle.ifl_desc.specs.Turns.{TurnState, TurnstileId, slots_of}
+use Rattle.std.proofs.Common.{◌∙◌, ap, sym, arith}
+use Rattle.ifl_desc.specs.Turns.{TurnState, TurnstileId}
 use Rattle.ifl_desc.proofs.TurnSteps.{halves}
 use Rattle.ifl_desc.proofs.turnstile.Turnstile.split.Goals as goal
 

@@ -1,7 +1,7 @@
-use Rattle.std.proofs.Common.{◌≡◌, ℕ, ◌<◌, ◌-◌, ◌/◌, ◌∙◌, ap, sym, arith, subst, refl, ◌∷◌, List, [], true, false}
+use Rattle.std.proofs.Common.{◌∙◌, ap, sym, arith, ◌∷◌}
 use Rattle.std.specs.Prelude.{Some}
 use Rattle.atomic_table.specs.Table.{rest}
-use Rattle.ifl_desc.specs.Turns.{TurnState, TurnstileId, slots_of}
+use Rattle.ifl_desc.specs.Turns.{TurnState, TurnstileId}
 use Rattle.ifl_desc.proofs.TurnSteps.{tries}
 use Rattle.ifl_desc.proofs.turnstile.Turnstile.try_turn.Goals as goal
 
