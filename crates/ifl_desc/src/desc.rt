@@ -1,4 +1,6 @@
 //! What a ring carries.
+ghost use Rattle.std.specs.Prelude.{◌≤◌, length};
+
 use ifl_base::{Stamp, Ticket};
 use ifl_mbuf::Seg;
 use thiserror::Error;
@@ -33,6 +35,7 @@ pub struct Desc {
     pub last: bool,
     /// What became of it.
     pub status: Status,
+    ghost fits: { length seg.bytes ≤ 2048 },
 }
 
 /// The fewest slots of a ring.

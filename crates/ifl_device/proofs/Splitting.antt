@@ -1,0 +1,2 @@
+-- Lists of descriptors and their frames.
+use Rattle.std.proofs.Common.{◌≡◌, ℕ}

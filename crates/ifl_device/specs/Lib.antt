@@ -1,0 +1,4 @@
+pub mod Adapter
+pub mod Wire
+pub mod Engine
+pub mod Origin

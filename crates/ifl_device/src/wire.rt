@@ -1,0 +1,164 @@
+//! The wire: a capture that grows by a record at a time, in room that was taken once.
+ghost use Rattle.std.specs.Prelude.{◌≡◌, ◌+◌, ◌-◌, ◌<◌, ◌≤◌, ◌^◌, ◌++◌, [], length, vec_capacity, IfOk};
+ghost use Rattle.ifl_pcap.specs.Numbers.{spelled};
+ghost use Rattle.ifl_pcap.specs.File.{record_of, written};
+ghost use Rattle.ifl_device.specs.Adapter.{bytes_of, captured, record_size};
+ghost use Rattle.ifl_device.specs.Wire.{left_in};
+
+use byteorder::{ByteOrder, LittleEndian};
+use ifl_base::{CHAIN_MAX, Items, NoMemory};
+use ifl_desc::Desc;
+use ifl_pcap::{Capture, write_capture};
+use std::alloc::Global;
+use std::marker::Model;
+
+/// The bytes of a capture's header.
+const HEADER_BYTES: u64 = 24;
+
+/// The bytes of a record before its frame's.
+const RECORD_BYTES: u64 = 16;
+
+/// The capture and its room.
+#[derive(Drop)]
+pub(crate) struct Wire {
+    bytes: Vec<u8>,
+    room: u64,
+}
+
+impl Model for Wire {
+    ghost use Rattle.std.specs.Prelude.{◌+◌, ◌≤◌, length, vec_capacity};
+    ghost use Rattle.ifl_device.specs.Wire.{WireSees};
+
+    ghost Value = { WireSees };
+
+    ghost view = { λ w. record { bytes = w.bytes.items; room = w.room } };
+
+    ghost invariant = { λ w. (24 ≤ length w.bytes.items) × (length w.bytes.items ≤ 24 + w.room) × (24 + w.room ≤ vec_capacity w.bytes) };
+}
+
+/// How many bytes the frame of these descriptors has.
+fn frame_len(frame: &[Desc]) -> u64
+    requires { length frame.now ≤ 64 }
+    ensures { result ≡ length (bytes_of frame.now) }
+{
+    let mut len = 0;
+    for d in frame {
+        len += d.seg.bytes().len() as u64;
+    }
+    len
+}
+
+/// The length in bytes of the record of a frame of at most 64 descriptors.
+pub(crate) fn record_len(frame: &[Desc]) -> u64
+    requires { length frame.now ≤ 64 }
+    ensures { result ≡ record_size frame.now }
+{
+    RECORD_BYTES + frame_len(frame)
+}
+
+/// Appends bytes for which there is room.
+fn put(out: &mut Vec<u8>, bytes: &[u8])
+    requires { length out.old.items + length bytes.now ≤ vec_capacity out.old }
+    ensures items { out.new.items ≡ out.old.items ++ bytes.now }
+    ensures capacity { vec_capacity out.old ≤ vec_capacity out.new }
+{
+    let Ok(()) = out.extend_from_slice(bytes) else {
+        unreachable!()
+    };
+}
+
+/// Appends a number's four bytes, the lowest first.
+#[tactic(auto, unfolding(ifl_pcap::specs::Numbers::spelled))]
+fn put_number(out: &mut Vec<u8>, n: u32)
+    requires { length out.old.items + 4 ≤ vec_capacity out.old }
+    ensures items { out.new.items ≡ out.old.items ++ spelled n }
+    ensures capacity { vec_capacity out.old ≤ vec_capacity out.new }
+{
+    let mut bytes = [0u8; 4];
+    LittleEndian::write_u32(&mut bytes, n);
+    put(out, &bytes);
+}
+
+impl Wire {
+    /// How many more bytes of records fit.
+    pub fn left(&self) -> u64
+        ensures { result ≡ left_in self.now }
+    {
+        self.room - (self.bytes.len() as u64 - HEADER_BYTES)
+    }
+
+    /// Appends the record of a frame of 1 to 64 descriptors, which fits.
+    pub fn write(&mut self, frame: &[Desc])
+        requires some { (0 < length frame.now) × (length frame.now ≤ 64) }
+        requires room { record_size frame.now ≤ left_in self.old }
+        ensures bytes { self.new.bytes ≡ self.old.bytes ++ record_of (captured frame.now) }
+        ensures room { self.new.room ≡ self.old.room }
+    {
+        let stamp = frame[0].stamp;
+        let len = frame_len(frame) as u32;
+        put_number(&mut self.bytes, stamp.sec);
+        put_number(&mut self.bytes, stamp.usec);
+        put_number(&mut self.bytes, len);
+        put_number(&mut self.bytes, stamp.orig);
+        for d in frame {
+            put(&mut self.bytes, d.seg.bytes());
+        }
+    }
+
+    /// The capture.
+    pub fn into_bytes(self) -> Vec<u8>
+        ensures { result.items ≡ self.bytes }
+    {
+        let Wire { bytes, room: _ } = self;
+        bytes
+    }
+}
+
+/// A capture with no record yet, with room for so many bytes of records, and for the descriptors of one frame, which
+/// an engine holds while their record does not fit.
+#[derive(Drop)]
+pub struct WireBuffer {
+    pub(crate) wire: Wire,
+    pub(crate) frame: Vec<Desc>,
+}
+
+impl Model for WireBuffer {
+    ghost use Rattle.std.specs.Prelude.{◌≡◌, ◌≤◌, [], vec_capacity};
+    ghost use Rattle.ifl_device.specs.Wire.{WireSees};
+
+    ghost Value = { WireSees };
+
+    ghost view = { λ b. b.wire };
+
+    ghost invariant = { λ b. (b.frame.items ≡ []) × (64 ≤ vec_capacity b.frame) };
+}
+
+impl WireBuffer {
+    /// A capture's header, and room for `room` bytes of records.
+    pub fn new(alloc: Global, room: u64) -> Result<WireBuffer, NoMemory>
+        ensures { IfOk result (λ b. b ≡ record { bytes = written []; room = room }) }
+    {
+        let empty = Capture {
+            frames: Items::new(alloc),
+        };
+        let header = write_capture(alloc, &empty)?;
+        let Some(size) = room.checked_add(HEADER_BYTES) else {
+            return Err(NoMemory);
+        };
+        let mut bytes = Vec::with_capacity(alloc, size as usize)?;
+        put(&mut bytes, header.as_slice());
+        let frame = Vec::with_capacity(alloc, CHAIN_MAX as usize)?;
+        Ok(WireBuffer {
+            wire: Wire { bytes, room },
+            frame,
+        })
+    }
+
+    /// The capture.
+    pub fn into_bytes(self) -> Vec<u8>
+        ensures { result.items ≡ self.bytes }
+    {
+        let WireBuffer { wire, frame: _ } = self;
+        wire.into_bytes()
+    }
+}
