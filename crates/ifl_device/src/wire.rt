@@ -2,11 +2,11 @@
 ghost use Rattle.std.specs.Prelude.{◌≡◌, ◌+◌, ◌-◌, ◌<◌, ◌≤◌, ◌^◌, ◌++◌, [], length, vec_capacity, IfOk};
 ghost use Rattle.ifl_pcap.specs.Numbers.{spelled};
 ghost use Rattle.ifl_pcap.specs.File.{record_of, written};
-ghost use Rattle.ifl_device.specs.Adapter.{bytes_of, captured, record_size};
+ghost use Rattle.ifl_device.specs.Adapter.{bytes_of, captured, record_size, stamp_of};
 ghost use Rattle.ifl_device.specs.Wire.{left_in};
 
 use byteorder::{ByteOrder, LittleEndian};
-use ifl_base::{CHAIN_MAX, Items, NoMemory};
+use ifl_base::{CHAIN_MAX, Items, NoMemory, Stamp};
 use ifl_desc::Desc;
 use ifl_pcap::{Capture, write_capture};
 use std::alloc::Global;
@@ -39,7 +39,8 @@ impl Model for Wire {
 /// How many bytes the frame of these descriptors has.
 fn frame_len(frame: &[Desc]) -> u64
     requires { length frame.now ≤ 64 }
-    ensures { result ≡ length (bytes_of frame.now) }
+    ensures value { result ≡ length (bytes_of frame.now) }
+    ensures few { result ≤ 131072 }
 {
     let mut len = 0;
     for d in frame {
@@ -54,6 +55,14 @@ pub(crate) fn record_len(frame: &[Desc]) -> u64
     ensures { result ≡ record_size frame.now }
 {
     RECORD_BYTES + frame_len(frame)
+}
+
+/// The stamp of a frame.
+fn first_stamp(frame: &[Desc]) -> Stamp
+    requires { 0 < length frame.now }
+    ensures { result ≡ stamp_of frame.now }
+{
+    frame[0].stamp
 }
 
 /// Appends bytes for which there is room.
@@ -72,11 +81,37 @@ fn put(out: &mut Vec<u8>, bytes: &[u8])
 fn put_number(out: &mut Vec<u8>, n: u32)
     requires { length out.old.items + 4 ≤ vec_capacity out.old }
     ensures items { out.new.items ≡ out.old.items ++ spelled n }
+    ensures len { length out.new.items ≡ length out.old.items + 4 }
     ensures capacity { vec_capacity out.old ≤ vec_capacity out.new }
 {
     let mut bytes = [0u8; 4];
     LittleEndian::write_u32(&mut bytes, n);
     put(out, &bytes);
+}
+
+/// Appends what a record has before its frame.
+fn put_head(out: &mut Vec<u8>, stamp: &Stamp, len: u32)
+    requires { length out.old.items + 16 ≤ vec_capacity out.old }
+    ensures items { out.new.items ≡ out.old.items ++ (spelled stamp.now.sec ++ (spelled stamp.now.usec ++ (spelled len ++ spelled stamp.now.orig))) }
+    ensures len { length out.new.items ≡ length out.old.items + 16 }
+    ensures capacity { vec_capacity out.old ≤ vec_capacity out.new }
+{
+    put_number(out, stamp.sec);
+    put_number(out, stamp.usec);
+    put_number(out, len);
+    put_number(out, stamp.orig);
+}
+
+/// Appends the bytes of a frame.
+fn put_frame(out: &mut Vec<u8>, frame: &[Desc])
+    requires { length out.old.items + length (bytes_of frame.now) ≤ vec_capacity out.old }
+    ensures items { out.new.items ≡ out.old.items ++ bytes_of frame.now }
+    ensures len { length out.new.items ≡ length out.old.items + length (bytes_of frame.now) }
+    ensures capacity { vec_capacity out.old ≤ vec_capacity out.new }
+{
+    for d in frame {
+        put(out, d.seg.bytes());
+    }
 }
 
 impl Wire {
@@ -94,15 +129,9 @@ impl Wire {
         ensures bytes { self.new.bytes ≡ self.old.bytes ++ record_of (captured frame.now) }
         ensures room { self.new.room ≡ self.old.room }
     {
-        let stamp = frame[0].stamp;
         let len = frame_len(frame) as u32;
-        put_number(&mut self.bytes, stamp.sec);
-        put_number(&mut self.bytes, stamp.usec);
-        put_number(&mut self.bytes, len);
-        put_number(&mut self.bytes, stamp.orig);
-        for d in frame {
-            put(&mut self.bytes, d.seg.bytes());
-        }
+        put_head(&mut self.bytes, &first_stamp(frame), len);
+        put_frame(&mut self.bytes, frame);
     }
 
     /// The capture.
