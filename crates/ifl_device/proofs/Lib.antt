@@ -1,3 +1,3 @@
 pub mod Records
 pub mod Splitting
-pub mod Sending
+pub mod Returning

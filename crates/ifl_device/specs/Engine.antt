@@ -8,11 +8,14 @@ use Rattle.ifl_desc.specs.declared.desc.Desc.{Desc}
 use Rattle.ifl_desc.specs.declared.history.Side.TheVariants.{Driver, Device}
 use Rattle.ifl_desc.specs.declared.history.Event.{Event}
 use Rattle.ifl_desc.specs.History.{sent, known, looks}
+use Rattle.ifl_desc.specs.Frames.{open_after}
 use Rattle.ifl_desc.specs.Ends.{DeviceSees, IsDevice}
 use Rattle.ifl_desc.specs.Port.{WriterState}
 use Rattle.ifl_device.specs.declared.plan.EnginePlan.{EnginePlan}
 use Rattle.ifl_device.specs.declared.plan.Turn.{Turn}
 use Rattle.ifl_device.specs.declared.plan.Turn.TheVariants.{Moved, Idle, WireFull}
+use Rattle.ifl_device.specs.declared.tried.Tried.{Tried}
+use Rattle.ifl_device.specs.declared.tried.Tried.TheVariants.{Sent, Empty, Full}
 use Rattle.ifl_device.specs.Adapter.{frames_of, IsWholeFrame, captured, record_size, emitted_as}
 use Rattle.ifl_device.specs.Wire.{WireSees, left_in}
 
@@ -38,6 +41,11 @@ returned e = sent Device e.device.seen
 -- a plan of an engine that only emits
 abbrev pub OnlyEmits : EnginePlan → Type 0
 OnlyEmits p = p ≡ record { hang_after = 0; link_down_after = 0; link_down_turns = p.link_down_turns; flush_after = None; by_hand = false }
+
+-- no entry is marked
+abbrev pub AreUnmarked : List Desc → Type 0
+AreUnmarked [] = Unit {0}
+AreUnmarked (d ∷ ds) = (d.last ≡ false) × AreUnmarked ds
 
 -- nothing, or one whole frame
 abbrev pub IsHeld : List Desc → Type 0
@@ -70,13 +78,26 @@ pub record Emits (frames : List (List Desc)) (a b : EngineSees) : Type 0 where
   pub bytes : b.wire.bytes ≡ a.wire.bytes ++ flat_map record_of (map captured frames)
   pub count : b.emitted ≡ a.emitted + length frames
 
--- one load was made, and it showed all that is known to be rung
-abbrev pub LoadsOnce : List Event → List Event → Type 0
-LoadsOnce a b = (looks Device b ≡ suc (looks Device a)) × ((g : List Event) × IsPrefix a g × IsPrefix g b × (known Device g ≡ length (sent Driver g)) × (known Device b ≡ known Device g))
+-- what the engine knows to be rung ends with a frame
+abbrev pub IsTold : EngineSees → Type 0
+IsTold e = open_after 0 (take (known Device e.device.seen) (sent Driver e.device.seen)) ≡ 0
 
--- so many frames were emitted, after one load that showed all that the engine knows to be rung
+-- the engine looked at the doorbell no more
+abbrev pub LooksNot : EngineSees → EngineSees → Type 0
+LooksNot a b = (looks Device b.device.seen ≡ looks Device a.device.seen) × (known Device b.device.seen ≡ known Device a.device.seen)
+
+-- it looked once, and that look showed all that it knows to be rung
+pub record LooksOnce (a b : List Event) : Type 0 where
+  pub once : looks Device b ≡ suc (looks Device a)
+  pub then : List Event
+  pub before : IsPrefix a then
+  pub after : IsPrefix then b
+  pub all : known Device then ≡ length (sent Driver then)
+  pub still : known Device b ≡ known Device then
+
+-- so many frames were emitted, after one look
 abbrev pub Moves : ℕ → EngineSees → EngineSees → Type 0
-Moves k a b = ((frames : List (List Desc)) × (length frames ≡ k) × Emits frames a b) × LoadsOnce a.device.seen b.device.seen
+Moves k a b = ((frames : List (List Desc)) × (length frames ≡ k) × Emits frames a b) × LooksOnce a.device.seen b.device.seen
 
 -- all that is known to be rung is emitted
 abbrev pub IsDrained : EngineSees → Type 0
@@ -85,6 +106,12 @@ IsDrained e = (e.held ≡ []) × (e.device.fetched ≡ known Device e.device.see
 -- the next frame is held, since its record needs more than is left
 abbrev pub IsFull : EngineSees → ℕ → ℕ → Type 0
 IsFull e need room = IsWholeFrame e.held × (need ≡ record_size e.held) × (room ≡ left_in e.wire) × (room < need)
+
+-- what the try at one frame did, by its answer
+abbrev pub TriedOne : EngineSees → Tried → EngineSees → Type 0
+TriedOne a Sent b = ((frame : List Desc) × Emits (frame ∷ []) a b) × LooksNot a b × IsTold b × (b.held ≡ [])
+TriedOne a Empty b = (b ≡ a) × IsDrained b
+TriedOne a (Full need room) b = Emits [] a b × LooksNot a b × IsFull b need room
 
 -- what a turn of so many frames did, by its answer
 abbrev pub Turned : EngineSees → ℕ → Turn → EngineSees → Type 0

@@ -1,10 +1,17 @@
 //! The engine.
-ghost use Rattle.std.specs.Prelude.{◌≡◌, ℕ, ◌+◌, ◌<◌, ◌≤◌, [], length};
-ghost use Rattle.ifl_desc.specs.Ends.{IsNewDevice};
+ghost use Rattle.std.specs.Prelude.{◌≡◌, ℕ, ◌+◌, ◌<◌, ◌≤◌, [], ◌∷◌, length, map, vec_capacity};
+ghost use Rattle.std.specs.Bool.{OnTrue, OnFalse};
+ghost use Rattle.ifl_desc.specs.declared.history.Side.TheVariants.{Device};
+ghost use Rattle.ifl_desc.specs.declared.history.Event.TheVariants.{Sent};
+ghost use Rattle.ifl_desc.specs.Calls.{Grew};
+ghost use Rattle.ifl_desc.specs.Ends.{IsNewDevice, IsDevice, completed};
 ghost use Rattle.ifl_pcap.specs.File.{written};
-ghost use Rattle.ifl_device.specs.Engine.{IsEngine, OnlyEmits, engine_of};
+ghost use Rattle.ifl_device.specs.Adapter.{IsWholeFrame, record_size, emitted_as};
+ghost use Rattle.ifl_device.specs.Wire.{left_in};
+ghost use Rattle.ifl_device.specs.Engine.{IsEngine, OnlyEmits, Turned, TriedOne, Emits, LooksOnce, LooksNot, IsTold, IsDrained, engine_of};
 
 use crate::plan::{EngineOrigin, EnginePlan, Turn};
+use crate::tried::Tried;
 use crate::wire::{Wire, WireBuffer, record_len};
 use ifl_desc::{Desc, DescRing, Kept, Port, PortWriter, Status};
 use std::marker::Model;
@@ -37,6 +44,24 @@ impl<'a, R: DescRing> Model for TxEngine<'a, R> {
     ghost invariant = { λ e. IsEngine (engine_of (R.ring e.ring.now) e.port.now e.plan (R.device_sees e.device) e.writer e.wire e.frame.items e.emitted) × (64 ≤ vec_capacity e.frame) };
 }
 
+// Completes the entries of one frame in order, each as emitted.
+fn give_back<R: DescRing>(ring: &R, device: &mut R::Device, frame: &mut Vec<Desc>)
+    requires ring { (R.device_sees device.old).ring ≡ R.ring ring.now }
+    requires ready { (R.device_sees device.old).ready ≡ [] }
+    requires fetched { (R.device_sees device.old).fetched ≡ completed (R.device_sees device.old) + length frame.old.items }
+    requires frame { IsWholeFrame frame.old.items }
+    ensures returned { Grew Device (R.device_sees device.old).seen (R.device_sees device.new).seen (Sent Device (map emitted_as frame.old.items)) }
+    ensures same { R.device_sees device.new ≡ record (R.device_sees device.old) { seen = (R.device_sees device.new).seen } }
+    ensures lawful { IsDevice (R.device_sees device.new) }
+    ensures none { (frame.new.items ≡ []) × (vec_capacity frame.new ≡ vec_capacity frame.old) }
+{
+    frame.reverse();
+    while let Some(mut d) = frame.pop() {
+        d.status = Status::Emitted;
+        ring.complete(device, d);
+    }
+}
+
 impl<'a, R: DescRing> TxEngine<'a, R> {
     /// An engine that has emitted nothing.
     pub fn new(
@@ -64,6 +89,91 @@ impl<'a, R: DescRing> TxEngine<'a, R> {
             emitted: 0,
             plan,
         }
+    }
+
+    /// Emits rung frames in order, at most so many.
+    ///
+    /// It answers `Idle` where nothing was rung beyond what was fetched and nothing is held, and `WireFull` where the
+    /// first frame's record needs more than the room left; that frame is held, and the next turn tries it again. It
+    /// moves fewer frames than asked only where no more was rung at its one look, or the next record does not fit.
+    pub fn turn(&mut self, frames: u32) -> Turn
+        requires { 1 ≤ frames }
+        ensures did { Turned self.old frames result self.new }
+        ensures lawful { IsEngine self.new }
+    {
+        self.look();
+        for moved in 0..frames {
+            match self.try_frame() {
+                Tried::Sent => {}
+                Tried::Empty if moved == 0 => {
+                    return Turn::Idle {
+                        doorbell: self.ring.doorbell(&self.device),
+                    };
+                }
+                Tried::Full(need, room) if moved == 0 => return Turn::WireFull { need, room },
+                _ => return Turn::Moved(moved),
+            }
+        }
+        Turn::Moved(frames)
+    }
+
+    // Looks at the doorbell once.
+    fn look(&mut self)
+        ensures looked { LooksOnce self.old.device.seen self.new.device.seen }
+        ensures sent { Emits [] self.old self.new }
+        ensures told { IsTold self.new }
+        ensures held { (self.new.held ≡ self.old.held) × (self.new.device.fetched ≡ self.old.device.fetched) }
+    {
+        self.ring.fetch(&mut self.device);
+    }
+
+    // Emits the held frame, or else the next one.
+    fn try_frame(&mut self) -> Tried
+        requires { IsTold self.old }
+        ensures { TriedOne self.old result self.new }
+    {
+        if self.frame.is_empty() && !self.take_frame() {
+            return Tried::Empty;
+        }
+        let need = record_len(&self.frame);
+        let room = self.wire.left();
+        if need > room {
+            return Tried::Full(need, room);
+        }
+        self.emit();
+        Tried::Sent
+    }
+
+    // Takes the next frame off the ring, or answers that none is rung.
+    fn take_frame(&mut self) -> bool
+        requires told { IsTold self.old }
+        requires none { self.old.held ≡ [] }
+        ensures frame { OnTrue result (Emits [] self.old self.new × LooksNot self.old self.new × IsTold self.new × IsWholeFrame self.new.held) }
+        ensures empty { OnFalse result ((self.new ≡ self.old) × IsDrained self.new) }
+    {
+        let mut last = false;
+        while !last {
+            let Some(d) = self.ring.next(&mut self.device) else {
+                return false;
+            };
+            last = d.last;
+            self.frame.push_reserved(d);
+        }
+        true
+    }
+
+    // Puts the record of the held frame on the wire, and returns its descriptors.
+    fn emit(&mut self)
+        requires told { IsTold self.old }
+        requires frame { IsWholeFrame self.old.held }
+        requires room { record_size self.old.held ≤ left_in self.old.wire }
+        ensures sent { Emits (map emitted_as self.old.held ∷ []) self.old self.new }
+        ensures looked { LooksNot self.old self.new × IsTold self.new }
+        ensures none { self.new.held ≡ [] }
+    {
+        self.wire.write(&self.frame);
+        give_back(self.ring, &mut self.device, &mut self.frame);
+        self.emitted += 1;
     }
 
     /// How many frames were emitted.

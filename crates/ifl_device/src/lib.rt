@@ -7,6 +7,7 @@
 
 mod engine;
 mod plan;
+mod tried;
 mod wire;
 
 pub use engine::TxEngine;

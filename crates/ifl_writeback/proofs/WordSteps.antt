@@ -1,8 +1,7 @@
 -- The steps of a writeback ring keep its rule.
-use Rattle.std.proofs.Common.{◌≡◌, ℕ, zero, suc, ◌+◌, ◌-◌, ◌%◌, ◌<◌, ◌≤◌, Bool, true, false, cond, List, [], ◌∷◌, ◌++◌, map, length, take, drop, set, get_or, replicate, sym, refl, ap, ◌∙◌, subst, arith, length-set, append-nil, append_assoc, get_or-set_other, get_or-set_same, length-append, mod-eq_of_lt}
-use mathlib.Core.Option.{some, none}
-use mathlib.Core.List.{IsPrefix}
-use Rattle.std.specs.Prelude.{Option, Some, None}
+use Rattle.std.proofs.Common.{◌≡◌, ℕ, zero, suc, ◌+◌, ◌%◌, ◌<◌, ◌≤◌, true, List, [], ◌∷◌, ◌++◌, length, set, get_or, replicate, sym, refl, ap, ◌∙◌, subst, arith, length-set, append-nil, get_or-set_other, get_or-set_same, length-append, mod-eq_of_lt}
+use mathlib.Core.Option.{none}
+use Rattle.std.specs.Prelude.{None}
 use Rattle.atomic_table.specs.Table.{Me, step, opening, Allows, Splits, Joins}
 use Rattle.ifl_desc.specs.declared.desc.Desc.{Desc}
 use Rattle.ifl_desc.specs.declared.history.Side.{Side}
@@ -11,27 +10,21 @@ use Rattle.ifl_desc.specs.declared.history.Event.{Event}
 use Rattle.ifl_desc.specs.declared.history.Event.TheVariants.{Sent, Looked}
 use Rattle.ifl_desc.specs.declared.history.View.{View}
 use Rattle.ifl_desc.specs.declared.rack.Rack.{Rack}
-use Rattle.ifl_desc.specs.History.{other, sent, known, own}
-use Rattle.ifl_desc.specs.Frames.{IsShort, IsFine, IsFrame, IsSettled, open_after}
-use Rattle.ifl_desc.specs.Rule.{Slot, laid, view, InOrder, Tied}
-use Rattle.ifl_desc.specs.Plays.{distance, pushed, pulled, filled, saw, note, hearing, whole, full, retired, gathered, closing}
-use Rattle.ifl_desc.specs.Ends.{DriverSees, DeviceSees}
+use Rattle.ifl_desc.specs.History.{other, sent, known}
+use Rattle.ifl_desc.specs.Frames.{IsFrame, IsSettled, open_after}
+use Rattle.ifl_desc.specs.Rule.{Slot, laid, view}
+use Rattle.ifl_desc.specs.Plays.{pushed, pulled, filled, saw, note, hearing, whole, full, retired, gathered, closing}
 use Rattle.ifl_desc.proofs.DeviceCalls.{frame_of, word₁, short₁, total₁}
-use Rattle.ifl_desc.specs.Rack.{IsRack, SameSeat, placed, taken, ahead, row, seen_of, spin}
-use Rattle.ifl_desc.proofs.Steps.{Fits, sent_append, known_append, same_sent}
+use Rattle.ifl_desc.specs.Rack.{IsRack, SameSeat, placed, ahead, row, seen_of}
+use Rattle.ifl_desc.proofs.Steps.{sent_append, same_sent}
 use Rattle.ifl_desc.proofs.Allowed.{Has}
 use Rattle.ifl_desc.proofs.OwnSteps.{rack_pushes, rack_pulls, looked_sent}
-use Rattle.ifl_desc.proofs.Rows.{slot_at, laid_length}
+use Rattle.ifl_desc.proofs.Rows.{laid_length}
 use Rattle.ifl_desc.proofs.Racks.{counted}
-use Rattle.std.proofs.Math.Nat.{add-mod_right}
-use native.Mathlib.Decide.{ℕ_discrete}
-use mathlib.Core.Logic.{dite}
-use lib.Seq.{set-get_or}
 use Rattle.ifl_desc.proofs.Beginning.{starts, fills, parts, notes, joins, sees}
 use Rattle.ifl_desc.proofs.Ending.{retires, ends, gathers}
-use Rattle.ifl_desc.proofs.AfterSteps.{push_done, pull_done, grew_sent, grew_known, grew_prefix, grew_other, grew_looks, kept_sent, more_known, laid_shift}
 use Rattle.ifl_writeback.specs.Writeback.{WordTie, Holds}
-use Rattle.ifl_desc.specs.Sides.{driver_of, DriverOk, device_of, DeviceOk}
+use Rattle.ifl_desc.specs.Sides.{DriverOk, DeviceOk}
 
 -- the doorbell
 bell_shows : (S new : ℕ) (ds : List Desc) (ws : List ℕ) (g : List Event) → new ≡ (length (sent Driver g) + length ds) % S → WordTie S ws g → WordTie S (set ws 0 new) (g ++ Sent Driver ds ∷ [])
@@ -129,7 +122,6 @@ pub sees_of : (S key slots id : ℕ) (r : Side) (me : Mine) (h g : List Event) �
 sees_of S key slots id r me h g key_is slots_is is =
     let P : ℕ × ℕ × View → Type 0 = λ z. Allows (Holds z.0) z.1 id (z.2, me.1) 0 (λ n. n) (saw r (step z.1 0 0 0 none) (z.2, me.1)) in
     subst P (λ i. (sym key_is i, sym slots_is i, sym is i)) (sees S (WordTie S) id 0 r h g me.1 (λ ws h f. tie_same S 0 ws h f))
-
 
 -- the device gives back all slots that it holds
 pub retires_of : (v : Rack) (k : IsRack Device v) (key slots id : ℕ) → ((v.put + v.bare) + v.left) + length (sent Device (seen_of v)) ≡ known Device (seen_of v) → slots ≡ v.size → key ≡ v.size

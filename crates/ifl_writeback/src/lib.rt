@@ -10,9 +10,6 @@ mod ends;
 mod plays;
 mod ring;
 
-
-
-
 pub use closed::WritebackClosed;
 pub use ends::{WritebackDevice, WritebackDriver};
 pub use ring::WritebackRing;

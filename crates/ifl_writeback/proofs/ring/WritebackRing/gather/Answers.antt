@@ -1,11 +1,10 @@
-use Rattle.std.proofs.Common.{◌≡◌, ℕ, ◌+◌, ◌<◌, ◌∙◌, ap, sym, arith, subst, refl, List, [], ◌++◌, length}
+use Rattle.std.proofs.Common.{◌≡◌, ◌∙◌, ap, sym, arith, subst, List, [], ◌++◌, length}
 use Rattle.ifl_desc.specs.declared.desc.Desc.{Desc}
 use Rattle.ifl_desc.specs.declared.history.Side.TheVariants.{Driver, Device}
 use Rattle.ifl_desc.specs.declared.history.Event.{Event}
 use Rattle.ifl_desc.specs.declared.history.View.{View}
 use Rattle.ifl_desc.specs.declared.rack.Rack.{Rack}
 use Rattle.ifl_desc.specs.History.{sent, known}
-use Rattle.ifl_desc.specs.Rule.{view}
 use Rattle.ifl_desc.specs.Ends.{DriverSees, DeviceSees}
 use Rattle.ifl_desc.specs.Rack.{seen_of, placed, ahead}
 use Rattle.ifl_desc.specs.Sides.{driver_of, device_of, DriverOk, DeviceOk}
@@ -23,8 +22,7 @@ load-requires c = let h : Rack = c.driver.inside.rack in let k : DriverOk h = c.
     let q = t2.counts in
     let same : c.take_all-2.new.self.seat.me.0.seen ≡ seen_of v = ap (λ (x : View). x.seen) t2.seat.2 in
     let total = w.total in
-    let sizes : c.take_all-2.new.self.size ≡ v.size = q.4 in
-    (
+    let sizes : c.take_all-2.new.self.size ≡ v.size = q.4 in (
       t2.seat.0 ∙ v_table,
       (let one = z.0 in omega arith),
       retires_of c.take_all-2.new.self t2.rack _ _ c.take_all-2.new.self.seat.id
@@ -37,8 +35,7 @@ join_seat-requires c = let h : Rack = c.driver.inside.rack in let k : DriverOk h
     let d_table = ap (λ (x : DriverSees). x.ring) c.driver.view_is ∙ c.requires.rings.0 ∙ sym c.self.view_is in
     let v_table = ap (λ (x : DeviceSees). x.ring) c.device.view_is ∙ c.requires.rings.1 ∙ sym c.self.view_is in
     let d_slots = ap (λ x. x.slots) (sym d_table) ∙ k.rack.size in let v_slots = ap (λ x. x.slots) (sym v_table) ∙ w.rack.size in
-    let t1 = c.take_all.ensures in let t2 = c.take_all-2.ensures in let u = c.unload.ensures in
-    (
+    let t1 = c.take_all.ensures in let t2 = c.take_all-2.ensures in let u = c.unload.ensures in (
       u.seat.0 ∙ t1.seat.0 ∙ d_table,
       c.load.ensures.0 ∙ t2.seat.0 ∙ v_table,
       c.load.ensures.2.5,
@@ -51,8 +48,7 @@ load-requires-2 c = let h : Rack = c.driver.inside.rack in let k : DriverOk h = 
     let d_table = ap (λ (x : DriverSees). x.ring) c.driver.view_is ∙ c.requires.rings.0 ∙ sym c.self.view_is in
     let v_table = ap (λ (x : DeviceSees). x.ring) c.device.view_is ∙ c.requires.rings.1 ∙ sym c.self.view_is in
     let d_slots = ap (λ x. x.slots) (sym d_table) ∙ k.rack.size in let v_slots = ap (λ x. x.slots) (sym v_table) ∙ w.rack.size in
-    let t1 = c.take_all.ensures in let t2 = c.take_all-2.ensures in let u = c.unload.ensures in
-    (
+    let t1 = c.take_all.ensures in let t2 = c.take_all-2.ensures in let u = c.unload.ensures in (
       c.join_seat.ensures.0 ∙ u.seat.0 ∙ t1.seat.0 ∙ d_table,
       (let one = z.0 in omega arith),
       gathers_of h.size _ _ _ _ c.unload.new.self.seat.me.0 c.load.new.seat.me.0 (z.2 ∙ sym z.1 ∙ d_slots) d_slots u.rack.role c.load.ensures.2.0 (ap (λ m. m.0) c.join_seat.ensures.2),

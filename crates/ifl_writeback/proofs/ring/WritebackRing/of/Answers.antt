@@ -1,4 +1,4 @@
-use Rattle.std.proofs.Common.{◌≡◌, ℕ, ◌<◌, ◌∙◌, ap, sym, arith, subst, refl, List, rules}
+use Rattle.std.proofs.Common.{◌<◌, ◌∙◌, ap, sym, arith, subst, List, rules}
 use Rattle.ifl_desc.specs.declared.history.Event.{Event}
 use Rattle.ifl_desc.specs.Rule.{IsLawful}
 use Rattle.ifl_desc.proofs.Beginning.{lawful_new}

@@ -1,4 +1,3 @@
-use Rattle.std.proofs.Common.{◌≡◌, ℕ, ◌∙◌, ap, sym}
 use Rattle.ifl_desc.proofs.Closing.{have_met, closes_since}
 use Rattle.ifl_writeback.proofs.ring.WritebackRingDescRing.close.Goals as goal
 

@@ -1,6 +1,6 @@
-use Rattle.std.proofs.Common.{◌≡◌, ℕ, ◌+◌, ◌-◌, ◌%◌, ◌<◌, ◌∙◌, ap, sym, arith, subst, List, refl, length, true, false}
+use Rattle.std.proofs.Common.{◌+◌, ◌%◌, ◌∙◌, ap, sym, arith, subst, refl}
 use Rattle.ifl_desc.specs.declared.rack.Rack.{Rack}
-use Rattle.ifl_desc.specs.Ends.{DeviceSees, completed}
+use Rattle.ifl_desc.specs.Ends.{DeviceSees}
 use Rattle.ifl_desc.specs.Calls.{Completes}
 use Rattle.ifl_desc.specs.Sides.{device_of, DeviceOk}
 use Rattle.ifl_desc.proofs.DeviceCalls.{device_lawful, place_ok, return_done, room_of_device}

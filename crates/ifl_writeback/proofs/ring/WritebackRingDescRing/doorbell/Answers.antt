@@ -1,7 +1,7 @@
-use Rattle.std.proofs.Common.{◌≡◌, ℕ, ◌%◌, ◌∙◌, ap, sym, subst}
+use Rattle.std.proofs.Common.{◌≡◌, ◌%◌, ◌∙◌, ap, sym}
 use Rattle.ifl_desc.specs.declared.rack.Rack.{Rack}
 use Rattle.ifl_desc.specs.Ends.{DeviceSees, rung}
-use Rattle.ifl_desc.specs.Sides.{device_of, DeviceOk}
+use Rattle.ifl_desc.specs.Sides.{DeviceOk}
 use Rattle.ifl_desc.proofs.DeviceCalls.{known_word}
 use Rattle.ifl_writeback.proofs.ring.WritebackRingDescRing.doorbell.Goals as goal
 

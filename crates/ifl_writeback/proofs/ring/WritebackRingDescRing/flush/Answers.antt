@@ -1,12 +1,11 @@
-use Rattle.std.proofs.Common.{◌≡◌, ℕ, ◌+◌, ◌-◌, ◌%◌, ◌<◌, ◌∙◌, ap, sym, arith, subst, List, refl, length}
-use Rattle.ifl_desc.specs.declared.desc.Desc.{Desc}
+use Rattle.std.proofs.Common.{◌+◌, ◌%◌, ◌∙◌, ap, sym, arith, subst, refl, length}
 use Rattle.ifl_desc.specs.declared.rack.Rack.{Rack}
 use Rattle.ifl_desc.specs.declared.history.Side.TheVariants.{Driver}
 use Rattle.ifl_desc.specs.History.{sent}
 use Rattle.ifl_desc.specs.Frames.{open_after}
 use Rattle.ifl_desc.specs.Ends.{DriverSees}
 use Rattle.ifl_desc.specs.Calls.{Flushes}
-use Rattle.ifl_desc.specs.Rack.{seen_of, placed}
+use Rattle.ifl_desc.specs.Rack.{seen_of}
 use Rattle.ifl_desc.proofs.Rows.{slot_at}
 use Rattle.ifl_desc.specs.Sides.{driver_of, DriverOk}
 use Rattle.ifl_desc.proofs.DriverCalls.{driver_lawful, flush_done}

@@ -1,4 +1,4 @@
-use Rattle.std.proofs.Common.{◌≡◌, ℕ, ◌<◌, ◌≤◌, ◌∙◌, ap, sym, arith, subst, refl}
+use Rattle.std.proofs.Common.{arith}
 use Rattle.ifl_writeback.proofs.WordSteps.{opens}
 use Rattle.ifl_writeback.proofs.ring.WritebackRingDescRing.make.Goals as goal
 

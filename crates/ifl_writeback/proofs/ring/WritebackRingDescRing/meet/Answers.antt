@@ -1,17 +1,16 @@
-use Rattle.std.proofs.Common.{◌≡◌, ℕ, ◌<◌, ◌≤◌, ◌∙◌, ap, sym, arith, subst, refl}
-use mathlib.Core.List.{IsPrefix}
+use Rattle.std.proofs.Common.{◌≡◌, ◌∙◌, ap, sym, arith, subst, refl}
 use Rattle.ifl_desc.specs.declared.rack.Rack.{Rack}
 use Rattle.ifl_desc.specs.declared.history.Side.TheVariants.{Driver, Device}
 use Rattle.ifl_desc.specs.declared.history.View.{View}
 use Rattle.ifl_desc.specs.Ends.{DriverSees, DeviceSees}
 use Rattle.ifl_desc.specs.Calls.{Meets}
-use Rattle.ifl_desc.specs.Rack.{seen_of, placed}
+use Rattle.ifl_desc.specs.Rack.{seen_of}
 use Rattle.ifl_desc.specs.Plays.{note, hearing}
 use Rattle.ifl_desc.specs.Sides.{driver_of, device_of, DriverOk, DeviceOk}
 use Rattle.ifl_desc.proofs.DriverCalls.{driver_lawful}
 use Rattle.ifl_desc.proofs.DeviceCalls.{device_lawful}
 use Rattle.ifl_writeback.proofs.WordSteps.{Mine, notes_of, joins_of, sees_of}
-use Rattle.ifl_desc.proofs.Meeting.{Met, met, met_driver, met_device}
+use Rattle.ifl_desc.proofs.Meeting.{met, met_driver, met_device}
 use Rattle.ifl_writeback.proofs.ring.WritebackRingDescRing.meet.Goals as goal
 
 pub split_seat-told-requires : goal.split_seat-told-requires

@@ -1,4 +1,4 @@
-use Rattle.std.proofs.Common.{◌≡◌, ℕ, ◌+◌, ◌-◌, ◌<◌, ◌∙◌, ap, sym, arith, subst, List}
+use Rattle.std.proofs.Common.{◌<◌, ap, sym, subst, List}
 use Rattle.ifl_desc.specs.declared.desc.Desc.{Desc}
 use Rattle.ifl_desc.specs.Frames.{open_after}
 use Rattle.ifl_desc.proofs.DriverCalls.{driver_lawful, posts_ok, room_is}

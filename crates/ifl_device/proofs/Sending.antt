@@ -1,2 +1,0 @@
--- Lists of descriptors and their frames.
-use Rattle.std.proofs.Common.{◌≡◌, ℕ}
