@@ -1,5 +1,6 @@
 -- How a frame is returned, an entry at a time.
 use Rattle.std.proofs.Common.{◌≡◌, ℕ, zero, suc, ◌+◌, ◌<◌, ◌≤◌, Bool, true, false, cond, List, [], ◌∷◌, ◌++◌, length, map, drop, get_or, sym, refl, ap, ◌∙◌, subst, arith, append-nil, append_assoc, length-append}
+use Rattle.std.proofs.Props.{props}
 use mathlib.Core.List.{reverse}
 use Rattle.std.proofs.lemmas.List.{reverse-append, reverse-reverse, length-reverse, length-map}
 use Rattle.ifl_desc.specs.declared.desc.Desc.{Desc}
@@ -10,6 +11,9 @@ use Rattle.ifl_desc.specs.History.{sent}
 use Rattle.ifl_desc.specs.Ends.{DeviceSees, completed}
 use Rattle.ifl_desc.specs.Calls.{Grew, Completes}
 use Rattle.ifl_device.specs.Adapter.{IsWholeFrame, emitted_as}
+
+fits_same : (n : ℕ) (a b : n ≤ 2048) → a ≡ b
+fits_same n a b = let p : IsProp (n ≤ 2048) = hlevel (props) in p a b
 
 -- the device's end went from a to b by completing what the frame had before these
 abbrev pub Giving : DeviceSees → DeviceSees → List Desc → List Desc → Type 0
@@ -65,6 +69,6 @@ module _ (a b c : DeviceSees) (frame : List Desc) where
     ap (λ (z : DeviceSees). z.ready ++ map emitted_as (x ∷ ds)) k ∙ append_assoc b.ready (emitted_as d ∷ []) (map emitted_as (x ∷ ds)) ∙ g.2,
   )
 
-  -- one more is completed
-  pub completed_one : (d : Desc) (ds : List Desc) → Giving a b frame (d ∷ ds) → a.ready ≡ [] → Completes b (emitted_as d) c → Giving a c frame ds
-  completed_one d ds g none k = completed_at d ds d.last refl g none k
+  -- one more is completed, whichever proof says that its segment lies within a cluster
+  pub completed_one : (d : Desc) (ds : List Desc) → Giving a b frame (d ∷ ds) → a.ready ≡ [] → (fits : length d.seg.bytes ≤ 2048) → Completes b (record (emitted_as d) { fits = fits }) c → Giving a c frame ds
+  completed_one d ds g none fits k = completed_at d ds d.last refl g none (subst (λ (z : Desc). Completes b z c) (λ i. record (emitted_as d) { fits = fits_same (length d.seg.bytes) fits d.fits i }) k)

@@ -10,7 +10,7 @@ loop-d-preserved g c =
     let frame : List Desc = c.args.frame.now.items in let i = c.loop-d.invariant in
     let p = popped c.pop.new.self.items c.in-Some.d i.0.0 (sym c.in-Some.ensures.items ∙ i.0.1) in
     let one : Giving a b frame (c.in-Some.d ∷ p.0) = subst (Giving a b frame) p.1 i.0.2 in (
-      (p.0, p.2, completed_one a b e frame c.in-Some.d p.0 one c.requires.ready c.complete.ensures.list),
+      (p.0, p.2, completed_one a b e frame c.in-Some.d p.0 one c.requires.ready _ c.complete.ensures.list),
       c.pop.ensures.capacity ∙ i.1,
       inr c.complete.ensures.lawful,
     )
