@@ -78,9 +78,20 @@ pub record Emits (frames : List (List Desc)) (a b : EngineSees) : Type 0 where
   pub bytes : b.wire.bytes ≡ a.wire.bytes ++ flat_map record_of (map captured frames)
   pub count : b.emitted ≡ a.emitted + length frames
 
+-- a frame ends behind the first n entries that the driver sent
+abbrev pub EndsFrame : ℕ → DeviceSees → Type 0
+EndsFrame n d = open_after 0 (take n (sent Driver d.seen)) ≡ 0
+
 -- what the engine knows to be rung ends with a frame
 abbrev pub IsTold : EngineSees → Type 0
-IsTold e = open_after 0 (take (known Device e.device.seen) (sent Driver e.device.seen)) ≡ 0
+IsTold e = EndsFrame (known Device e.device.seen) e.device
+
+-- the device's end took this frame, which stands next
+pub record Takes (a : DeviceSees) (frame : List Desc) (b : DeviceSees) : Type 0 where
+  pub whole : IsWholeFrame frame
+  pub short : length frame ≤ 64
+  pub list_is : take b.fetched (sent Driver a.seen) ≡ take a.fetched (sent Driver a.seen) ++ frame
+  pub count : b.fetched ≡ a.fetched + length frame
 
 -- the engine looked at the doorbell no more
 abbrev pub LooksNot : EngineSees → EngineSees → Type 0

@@ -3,12 +3,13 @@ ghost use Rattle.std.specs.Prelude.{◌≡◌, ℕ, ◌+◌, ◌<◌, ◌≤◌,
 ghost use Rattle.std.specs.Bool.{OnTrue, OnFalse};
 ghost use Rattle.ifl_desc.specs.declared.history.Side.TheVariants.{Device};
 ghost use Rattle.ifl_desc.specs.declared.history.Event.TheVariants.{Sent};
+ghost use Rattle.ifl_desc.specs.History.{known};
 ghost use Rattle.ifl_desc.specs.Calls.{Grew};
 ghost use Rattle.ifl_desc.specs.Ends.{IsNewDevice, IsDevice, completed};
 ghost use Rattle.ifl_pcap.specs.File.{written};
 ghost use Rattle.ifl_device.specs.Adapter.{IsWholeFrame, record_size, emitted_as};
 ghost use Rattle.ifl_device.specs.Wire.{left_in};
-ghost use Rattle.ifl_device.specs.Engine.{IsEngine, OnlyEmits, Turned, TriedOne, Emits, LooksOnce, LooksNot, IsTold, IsDrained, engine_of};
+ghost use Rattle.ifl_device.specs.Engine.{IsEngine, OnlyEmits, Turned, TriedOne, Emits, LooksOnce, LooksNot, IsTold, IsDrained, EndsFrame, Takes, engine_of};
 
 use crate::plan::{EngineOrigin, EnginePlan, Turn};
 use crate::tried::Tried;
@@ -42,6 +43,30 @@ impl<'a, R: DescRing> Model for TxEngine<'a, R> {
     ghost view = { λ e. engine_of (R.ring e.ring.now) e.port.now e.plan (R.device_sees e.device) e.writer e.wire e.frame.items e.emitted };
 
     ghost invariant = { λ e. IsEngine (engine_of (R.ring e.ring.now) e.port.now e.plan (R.device_sees e.device) e.writer e.wire e.frame.items e.emitted) × (64 ≤ vec_capacity e.frame) };
+}
+
+// Takes the next frame off the ring, or answers that none is rung.
+fn take_frame<R: DescRing>(ring: &R, device: &mut R::Device, frame: &mut Vec<Desc>) -> bool
+    requires ring { (R.device_sees device.old).ring ≡ R.ring ring.now }
+    requires lawful { IsDevice (R.device_sees device.old) }
+    requires told { EndsFrame (known Device (R.device_sees device.old).seen) (R.device_sees device.old) }
+    requires start { EndsFrame (R.device_sees device.old).fetched (R.device_sees device.old) }
+    requires room { (frame.old.items ≡ []) × (64 ≤ vec_capacity frame.old) }
+    ensures same { R.device_sees device.new ≡ record (R.device_sees device.old) { fetched = (R.device_sees device.new).fetched } }
+    ensures lawful { IsDevice (R.device_sees device.new) }
+    ensures taken { OnTrue result (Takes (R.device_sees device.old) frame.new.items (R.device_sees device.new)) }
+    ensures none { OnFalse result ((frame.new.items ≡ []) × (R.device_sees device.new ≡ R.device_sees device.old) × ((R.device_sees device.old).fetched ≡ known Device (R.device_sees device.old).seen)) }
+    ensures capacity { vec_capacity frame.new ≡ vec_capacity frame.old }
+{
+    let mut last = false;
+    while !last {
+        let Some(d) = ring.next(device) else {
+            return false;
+        };
+        last = d.last;
+        frame.push_reserved(d);
+    }
+    true
 }
 
 // Completes the entries of one frame in order, each as emitted.
@@ -132,7 +157,7 @@ impl<'a, R: DescRing> TxEngine<'a, R> {
         requires { IsTold self.old }
         ensures { TriedOne self.old result self.new }
     {
-        if self.frame.is_empty() && !self.take_frame() {
+        if self.frame.is_empty() && !take_frame(self.ring, &mut self.device, &mut self.frame) {
             return Tried::Empty;
         }
         let need = record_len(&self.frame);
@@ -142,24 +167,6 @@ impl<'a, R: DescRing> TxEngine<'a, R> {
         }
         self.emit();
         Tried::Sent
-    }
-
-    // Takes the next frame off the ring, or answers that none is rung.
-    fn take_frame(&mut self) -> bool
-        requires told { IsTold self.old }
-        requires none { self.old.held ≡ [] }
-        ensures frame { OnTrue result (Emits [] self.old self.new × LooksNot self.old self.new × IsTold self.new × IsWholeFrame self.new.held) }
-        ensures empty { OnFalse result ((self.new ≡ self.old) × IsDrained self.new) }
-    {
-        let mut last = false;
-        while !last {
-            let Some(d) = self.ring.next(&mut self.device) else {
-                return false;
-            };
-            last = d.last;
-            self.frame.push_reserved(d);
-        }
-        true
     }
 
     // Puts the record of the held frame on the wire, and returns its descriptors.
