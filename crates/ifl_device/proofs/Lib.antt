@@ -1,3 +1,4 @@
 pub mod Records
 pub mod Splitting
 pub mod Returning
+pub mod Engines

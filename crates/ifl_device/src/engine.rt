@@ -1,5 +1,5 @@
 //! The engine.
-ghost use Rattle.std.specs.Prelude.{◌≡◌, ℕ, ◌+◌, ◌<◌, ◌≤◌, [], ◌∷◌, length, map, vec_capacity};
+ghost use Rattle.std.specs.Prelude.{◌≡◌, ℕ, ◌+◌, ◌<◌, ◌≤◌, [], ◌∷◌, ◌^◌, length, map, vec_capacity};
 ghost use Rattle.std.specs.Bool.{OnTrue, OnFalse};
 ghost use Rattle.ifl_desc.specs.declared.history.Side.TheVariants.{Device};
 ghost use Rattle.ifl_desc.specs.declared.history.Event.TheVariants.{Sent};
@@ -157,7 +157,7 @@ impl<'a, R: DescRing> TxEngine<'a, R> {
         requires { IsTold self.old }
         ensures { TriedOne self.old result self.new }
     {
-        if self.frame.is_empty() && !take_frame(self.ring, &mut self.device, &mut self.frame) {
+        if !self.hold_frame() {
             return Tried::Empty;
         }
         let need = record_len(&self.frame);
@@ -169,11 +169,25 @@ impl<'a, R: DescRing> TxEngine<'a, R> {
         Tried::Sent
     }
 
+    // Takes the next frame off the ring where none is held, and answers whether one is held then.
+    fn hold_frame(&mut self) -> bool
+        requires { IsTold self.old }
+        ensures held { OnTrue result (Emits [] self.old self.new × LooksNot self.old self.new × IsTold self.new × IsWholeFrame self.new.held) }
+        ensures none { OnFalse result ((self.new ≡ self.old) × IsDrained self.new) }
+        ensures lawful { IsEngine self.new }
+    {
+        if self.frame.is_empty() {
+            return take_frame(self.ring, &mut self.device, &mut self.frame);
+        }
+        true
+    }
+
     // Puts the record of the held frame on the wire, and returns its descriptors.
     fn emit(&mut self)
         requires told { IsTold self.old }
         requires frame { IsWholeFrame self.old.held }
         requires room { record_size self.old.held ≤ left_in self.old.wire }
+        requires small { self.old.wire.room < 2 ^ 64 }
         ensures sent { Emits (map emitted_as self.old.held ∷ []) self.old self.new }
         ensures looked { LooksNot self.old self.new × IsTold self.new }
         ensures none { self.new.held ≡ [] }

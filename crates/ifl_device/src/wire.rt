@@ -117,7 +117,8 @@ fn put_frame(out: &mut Vec<u8>, frame: &[Desc])
 impl Wire {
     /// How many more bytes of records fit.
     pub fn left(&self) -> u64
-        ensures { result ≡ left_in self.now }
+        ensures value { result ≡ left_in self.now }
+        ensures small { self.now.room < 2 ^ 64 }
     {
         self.room - (self.bytes.len() as u64 - HEADER_BYTES)
     }
@@ -128,6 +129,7 @@ impl Wire {
         requires room { record_size frame.now ≤ left_in self.old }
         ensures bytes { self.new.bytes ≡ self.old.bytes ++ record_of (captured frame.now) }
         ensures room { self.new.room ≡ self.old.room }
+        ensures fits { length self.new.bytes ≤ 24 + self.new.room }
     {
         let len = frame_len(frame) as u32;
         put_head(&mut self.bytes, &first_stamp(frame), len);

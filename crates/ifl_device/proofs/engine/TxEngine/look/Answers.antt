@@ -1,0 +1,40 @@
+use Rattle.std.proofs.Common.{◌≡◌, ℕ, suc, ◌+◌, ◌-◌, ◌^◌, ◌<◌, ◌≤◌, ◌∙◌, ap, sym, subst, arith, refl, inl, inr, true, false, List, [], ◌∷◌, ◌++◌, length, map, rules}
+use Rattle.ifl_desc.specs.declared.desc.Desc.{Desc}
+use Rattle.ifl_desc.specs.declared.history.Side.TheVariants.{Driver, Device}
+use Rattle.ifl_desc.specs.History.{sent, known}
+use Rattle.ifl_desc.specs.Ends.{DeviceSees, IsDevice}
+use Rattle.ifl_device.specs.Adapter.{IsWholeFrame, emitted_as, record_size}
+use Rattle.ifl_device.specs.Wire.{WireSees, left_in}
+use Rattle.ifl_device.specs.Engine.{EngineSees, IsEngine, IsHeld, Emits, LooksOnce, LooksNot, IsTold, IsDrained, IsFull, TriedOne, engine_of, returned}
+use Rattle.ifl_device.proofs.Engines.{look_engine, look_once, look_sends, look_told}
+use Rattle.ifl_device.proofs.engine.TxEngine.look.Goals as goal
+
+pub fetch-requires : goal.fetch-requires
+fetch-requires g c = c.self.invariant.0.own
+
+pub invariant_of-self : goal.invariant_of-self
+invariant_of-self g c = let e : EngineSees = engine_of (g.R.DescRing.ring c.self.inside.ring.now) c.self.inside.port.now c.self.inside.plan (g.R.DescRing.device_sees c.self.inside.device) c.self.inside.writer c.self.inside.wire c.self.inside.frame.items c.self.inside.emitted in
+    let k : IsEngine e = c.self.invariant.0 in
+    let d : DeviceSees = g.R.DescRing.device_sees c.fetch.new.end in let b : EngineSees = engine_of e.ring e.port e.plan d e.writer e.wire e.held e.emitted in
+    (look_engine e k c.fetch.result d c.fetch.ensures.list c.fetch.ensures.lawful, c.self.invariant.1)
+
+pub returns-clause-looked : goal.returns-clause-looked
+returns-clause-looked g c = let e : EngineSees = engine_of (g.R.DescRing.ring c.self.inside.ring.now) c.self.inside.port.now c.self.inside.plan (g.R.DescRing.device_sees c.self.inside.device) c.self.inside.writer c.self.inside.wire c.self.inside.frame.items c.self.inside.emitted in
+    let k : IsEngine e = c.self.invariant.0 in
+    let d : DeviceSees = g.R.DescRing.device_sees c.fetch.new.end in let b : EngineSees = engine_of e.ring e.port e.plan d e.writer e.wire e.held e.emitted in
+    subst (λ (z : EngineSees). LooksOnce z.device.seen d.seen) c.self.view_is (look_once e k c.fetch.result d c.fetch.ensures.list c.fetch.ensures.lawful)
+
+pub returns-clause-sent : goal.returns-clause-sent
+returns-clause-sent g c = let e : EngineSees = engine_of (g.R.DescRing.ring c.self.inside.ring.now) c.self.inside.port.now c.self.inside.plan (g.R.DescRing.device_sees c.self.inside.device) c.self.inside.writer c.self.inside.wire c.self.inside.frame.items c.self.inside.emitted in
+    let k : IsEngine e = c.self.invariant.0 in
+    let d : DeviceSees = g.R.DescRing.device_sees c.fetch.new.end in let b : EngineSees = engine_of e.ring e.port e.plan d e.writer e.wire e.held e.emitted in
+    subst (λ (z : EngineSees). Emits [] z b) c.self.view_is (look_sends e k c.fetch.result d c.fetch.ensures.list c.fetch.ensures.lawful)
+
+pub returns-clause-told : goal.returns-clause-told
+returns-clause-told g c = let e : EngineSees = engine_of (g.R.DescRing.ring c.self.inside.ring.now) c.self.inside.port.now c.self.inside.plan (g.R.DescRing.device_sees c.self.inside.device) c.self.inside.writer c.self.inside.wire c.self.inside.frame.items c.self.inside.emitted in
+    let k : IsEngine e = c.self.invariant.0 in
+    let d : DeviceSees = g.R.DescRing.device_sees c.fetch.new.end in let b : EngineSees = engine_of e.ring e.port e.plan d e.writer e.wire e.held e.emitted in
+    look_told e k c.fetch.result d c.fetch.ensures.list c.fetch.ensures.lawful
+
+pub returns-clause-held : goal.returns-clause-held
+returns-clause-held g c = (ap (λ (z : EngineSees). z.held) c.self.view_is, ap (λ (z : DeviceSees). z.fetched) c.fetch.ensures.list.1 ∙ ap (λ (z : EngineSees). z.device.fetched) c.self.view_is)
