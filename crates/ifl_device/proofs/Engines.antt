@@ -16,6 +16,9 @@ use Rattle.ifl_desc.specs.Frames.{open_after}
 use Rattle.ifl_desc.specs.Ends.{DeviceSees, IsDevice}
 use Rattle.ifl_desc.specs.Calls.{Grew, Fetches}
 use Rattle.ifl_desc.proofs.AfterSteps.{grew_sent, grew_known, grew_prefix, grew_other, kept_sent}
+use Rattle.atomic_table.specs.Seated.{TableId}
+use Rattle.ifl_desc.specs.Port.{WriterState}
+use Rattle.ifl_device.specs.declared.plan.EnginePlan.{EnginePlan}
 use Rattle.ifl_device.specs.Adapter.{frames_of, IsWholeFrame, captured, emitted_as}
 use Rattle.ifl_device.specs.Wire.{WireSees}
 use Rattle.ifl_device.specs.Engine.{EngineSees, IsEngine, IsHeld, Emits, LooksOnce, LooksNot, IsTold, EndsFrame, Takes, engine_of, returned}
@@ -258,3 +261,23 @@ module _ (e : EngineSees) (k : IsEngine e) where
 pub some_held : (ds : List Desc) → IsWholeFrame ds → 0 < length ds
 some_held [] w = absurd w
 some_held (d ∷ ds) w = omega arith
+
+-- an engine that has emitted nothing
+pub new_engine : (ring port : TableId) (plan : EnginePlan) (d : DeviceSees) (writer : WriterState) (wire : WireSees) → d ≡ record { ring = ring; seen = []; fetched = 0; ready = [] } → IsDevice d → wire.bytes ≡ written []
+    → IsEngine (engine_of ring port plan d writer wire [] 0)
+new_engine ring port plan d writer wire is lawful bytes =
+    let n : DeviceSees = record { ring = ring; seen = []; fetched = 0; ready = [] } in
+    let l = header_length in let b = ap length bytes in
+    subst (λ (z : DeviceSees). IsEngine (engine_of ring port plan z writer wire [] 0)) (sym is) record {
+      own = refl;
+      lawful = subst IsDevice is lawful;
+      ready = refl;
+      same = refl;
+      held = refl;
+      fetched = omega arith;
+      whole = tt;
+      short = omega arith;
+      wire = bytes;
+      room = omega arith;
+      emitted = refl;
+    }

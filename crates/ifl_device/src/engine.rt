@@ -103,6 +103,8 @@ impl<'a, R: DescRing> TxEngine<'a, R> {
         ensures made { result ≡ engine_of (R.ring ring.now) port.now plan (R.device_sees device) writer wire [] 0 }
         ensures lawful { IsEngine result }
     {
+        // Any call at the end tells that it is one of a lawful ring.
+        ring.doorbell(&device);
         let WireBuffer { wire, frame } = wire;
         TxEngine {
             ring,
