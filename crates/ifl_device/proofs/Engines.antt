@@ -1,7 +1,8 @@
 -- An engine after each of its steps.
-use Rattle.std.proofs.Common.{◌≡◌, ℕ, zero, suc, ◌+◌, ◌-◌, ◌*◌, ◌^◌, ◌<◌, ◌≤◌, List, [], ◌∷◌, ◌++◌, length, map, take, sym, refl, ap, ◌∙◌, subst, arith, append-nil, append_assoc, length-append}
+use Rattle.std.proofs.Common.{◌≡◌, ℕ, zero, suc, ◌+◌, ◌-◌, ◌*◌, ◌^◌, ◌<◌, ◌≤◌, Bool, true, false, List, [], ◌∷◌, ◌++◌, length, map, take, sym, refl, ap, ◌∙◌, subst, arith, append-nil, append_assoc, length-append}
 use mathlib.Core.List.{IsPrefix}
 use Rattle.std.specs.List.{flat_map}
+use Rattle.std.specs.Bool.{OnTrue, OnFalse}
 use Rattle.std.proofs.lemmas.List.{take-append-le, map-append, length-map}
 use Rattle.ifl_pcap.specs.declared.frame.Frame.{Frame}
 use Rattle.ifl_pcap.specs.Numbers.{spelled}
@@ -21,9 +22,9 @@ use Rattle.ifl_desc.specs.Port.{WriterState}
 use Rattle.ifl_device.specs.declared.plan.EnginePlan.{EnginePlan}
 use Rattle.ifl_device.specs.Adapter.{frames_of, IsWholeFrame, captured, emitted_as}
 use Rattle.ifl_device.specs.Wire.{WireSees}
-use Rattle.ifl_device.specs.Engine.{EngineSees, IsEngine, IsHeld, Emits, LooksOnce, LooksNot, IsTold, EndsFrame, Takes, engine_of, returned}
+use Rattle.ifl_device.specs.Engine.{EngineSees, IsEngine, IsHeld, Emits, LooksOnce, LooksNot, IsTold, IsDrained, EndsFrame, Takes, engine_of, returned}
 use Rattle.ifl_device.proofs.Records.{header_length}
-use Rattle.ifl_device.proofs.Splitting.{frames_more, whole_emitted, captured_emitted, sent_whole, returned_open}
+use Rattle.ifl_device.proofs.Splitting.{frames_more, whole_emitted, captured_emitted, sent_whole, returned_open, open_emitted}
 
 no_event : {e : Event} {u : List Event} → e ∷ u ≡ [] → ⊥
 no_event {e} {u} p = let l : suc (length u) ≡ 0 = ap length p in omega arith
@@ -190,6 +191,24 @@ module _ (e : EngineSees) (k : IsEngine e) where
 
     pub hold_told : IsTold e → IsTold holding
     hold_told told = subst (λ (z : List Event). open_after 0 (take (known Device z) (sent Driver z)) ≡ 0) (sym seen_same) told
+
+  -- what was fetched ends with a frame, where none is held
+  pub start_ends : e.held ≡ [] → EndsFrame e.device.fetched e.device
+  start_ends none =
+      ap (open_after 0) (k.held ∙ ap (λ (z : List Desc). take (length (returned e)) list ++ z) none ∙ append-nil (take (length (returned e)) list))
+      ∙ sym (open_emitted 0 (take (length (returned e)) list)) ∙ ap (open_after 0) (sym k.same) ∙ returned_open e.device.seen k.lawful.lawful.frames
+
+  -- a try to hold the next frame
+  pub held_by : (taken : Bool) (frame : List Desc) (d : DeviceSees) → e.held ≡ [] → d ≡ record (e.device) { fetched = d.fetched } → IsDevice d → OnTrue taken (Takes e.device frame d)
+      → OnFalse taken ((frame ≡ []) × (d ≡ e.device) × (e.device.fetched ≡ known Device e.device.seen)) → IsTold e
+      → IsEngine (engine_of e.ring e.port e.plan d e.writer e.wire frame e.emitted)
+      × OnTrue taken (Emits [] e (engine_of e.ring e.port e.plan d e.writer e.wire frame e.emitted) × LooksNot e (engine_of e.ring e.port e.plan d e.writer e.wire frame e.emitted) × IsTold (engine_of e.ring e.port e.plan d e.writer e.wire frame e.emitted) × IsWholeFrame frame)
+      × OnFalse taken ((engine_of e.ring e.port e.plan d e.writer e.wire frame e.emitted ≡ e) × IsDrained (engine_of e.ring e.port e.plan d e.writer e.wire frame e.emitted))
+  held_by true frame d none same lawful t f told = (hold_engine none frame d same t lawful, (hold_sends none frame d same t lawful, hold_looks none frame d same t lawful, hold_told none frame d same t lawful told, t.whole), tt)
+  held_by false frame d none same lawful t f told =
+      let b : EngineSees = engine_of e.ring e.port e.plan d e.writer e.wire frame e.emitted in
+      let is : b ≡ e = λ i. engine_of e.ring e.port e.plan (f.1 i) e.writer e.wire ((f.0 ∙ sym none) i) e.emitted in
+      (subst IsEngine (sym is) k, tt, (is, (f.0, ap (λ (z : DeviceSees). z.fetched) f.1 ∙ f.2 ∙ ap (λ (z : DeviceSees). known Device z.seen) (sym f.1))))
 
   -- the held frame is emitted
   module _ (w : IsWholeFrame e.held) (d : DeviceSees) (g : Grew Device e.device.seen d.seen (Sent Device (map emitted_as e.held))) (same : d ≡ record (e.device) { seen = d.seen }) (lawful : IsDevice d)
