@@ -44,7 +44,7 @@ looks_append (e ∷ g) h = let i = looks_append g h in omega arith
 looks_grew : (g h : List Event) (e : Event) → Grew Device g h e → looks Device h ≡ looks Device g + looks_in Device e
 looks_grew g h e w = let a = ap (looks Device) w.1 in let b = looks_append (g ++ w.0) (e ∷ []) in let c = looks_append g w.0 in let d = looks_none w.0 w.2 in omega arith
 
-flat_more : (xs ys : List Frame) → flat_map record_of (xs ++ ys) ≡ flat_map record_of xs ++ flat_map record_of ys
+pub flat_more : (xs ys : List Frame) → flat_map record_of (xs ++ ys) ≡ flat_map record_of xs ++ flat_map record_of ys
 flat_more [] ys = refl
 flat_more (x ∷ xs) ys = ap (λ (z : List ℕ). record_of x ++ z) (flat_more xs ys) ∙ sym (append_assoc (record_of x) (flat_map record_of xs) (flat_map record_of ys))
 

@@ -132,13 +132,20 @@ impl<'a, R: DescRing> TxEngine<'a, R> {
         for moved in 0..frames {
             match self.try_frame() {
                 Tried::Sent => {}
-                Tried::Empty if moved == 0 => {
+                Tried::Empty => {
+                    if moved > 0 {
+                        return Turn::Moved(moved);
+                    }
                     return Turn::Idle {
                         doorbell: self.ring.doorbell(&self.device),
                     };
                 }
-                Tried::Full(need, room) if moved == 0 => return Turn::WireFull { need, room },
-                _ => return Turn::Moved(moved),
+                Tried::Full(need, room) => {
+                    if moved > 0 {
+                        return Turn::Moved(moved);
+                    }
+                    return Turn::WireFull { need, room };
+                }
             }
         }
         Turn::Moved(frames)
