@@ -11,7 +11,7 @@ use Rattle.ifl_desc.specs.History.{known, looks}
 use Rattle.ifl_desc.proofs.Closing.{prefix_trans}
 use Rattle.ifl_device.specs.Adapter.{captured, record_size}
 use Rattle.ifl_device.specs.Wire.{left_in}
-use Rattle.ifl_device.specs.Engine.{EngineSees, Emits, LooksOnce, LooksNot, IsTold, IsDrained, IsFull, Moves}
+use Rattle.ifl_device.specs.Engine.{EngineSees, IsEngine, Emits, LooksOnce, LooksNot, IsTold, IsDrained, IsFull, Moves}
 use Rattle.ifl_device.proofs.Engines.{flat_more}
 
 -- some frames, and then others
@@ -46,13 +46,15 @@ looks_then a m b x p y = record {
 pub record SoFar (a b : EngineSees) (moved : ℕ) : Type 0 where
   pub moves : Moves moved a b
   pub told : IsTold b
+  pub lawful : IsEngine b
   pub first : moved ≡ 0 → (b.held ≡ a.held) × (b.device.fetched ≡ a.device.fetched)
 
-pub moves_on : (a m b : EngineSees) (moved : ℕ) → SoFar a m moved → ((frame : List Desc) × Emits (frame ∷ []) m b) → LooksNot m b → IsTold b → SoFar a b (moved + 1)
-moves_on a m b moved s f not told =
+pub moves_on : (a m b : EngineSees) (moved : ℕ) → SoFar a m moved → ((frame : List Desc) × Emits (frame ∷ []) m b) → LooksNot m b → IsTold b → IsEngine b → SoFar a b (moved + 1)
+moves_on a m b moved s f not told lawful =
     let fs = s.moves.0.0 in let n = s.moves.0.1 in let l = length-append fs (f.0 ∷ []) in record {
       moves = ((fs ++ f.0 ∷ [], (omega arith), emits_both fs (f.0 ∷ []) a m b s.moves.0.2 f.1), looks_then a.device.seen m b s.moves.1 f.1.goes_on not);
       told = told;
+      lawful = lawful;
       first = λ z. absurd (omega arith);
     }
 
@@ -63,3 +65,7 @@ moves_stop a m b moved s none not =
 
 pub full_by_itself : (b : EngineSees) (need room : ℕ) → IsFull b need room → IsFull b (record_size b.held) (left_in b.wire)
 full_by_itself b need room f = let n = f.1 in let r = f.2 in let l = f.3 in (f.0, refl, refl, omega arith)
+
+-- the engine has looked, and emitted nothing yet
+pub moves_not : (a b : EngineSees) → LooksOnce a.device.seen b.device.seen → Emits [] a b → IsTold b → IsEngine b → (b.held ≡ a.held) × (b.device.fetched ≡ a.device.fetched) → SoFar a b 0
+moves_not a b looked none told lawful same = record { moves = (([], refl, none), looked); told = told; lawful = lawful; first = λ _. same }

@@ -157,6 +157,7 @@ impl<'a, R: DescRing> TxEngine<'a, R> {
         ensures sent { Emits [] self.old self.new }
         ensures told { IsTold self.new }
         ensures held { (self.new.held ≡ self.old.held) × (self.new.device.fetched ≡ self.old.device.fetched) }
+        ensures lawful { IsEngine self.new }
     {
         self.ring.fetch(&mut self.device);
     }
@@ -164,7 +165,8 @@ impl<'a, R: DescRing> TxEngine<'a, R> {
     // Emits the held frame, or else the next one.
     fn try_frame(&mut self) -> Tried
         requires { IsTold self.old }
-        ensures { TriedOne self.old result self.new }
+        ensures tried { TriedOne self.old result self.new }
+        ensures lawful { IsEngine self.new }
     {
         if !self.hold_frame() {
             return Tried::Empty;
@@ -200,6 +202,7 @@ impl<'a, R: DescRing> TxEngine<'a, R> {
         ensures sent { Emits (map emitted_as self.old.held ∷ []) self.old self.new }
         ensures looked { LooksNot self.old self.new × IsTold self.new }
         ensures none { self.new.held ≡ [] }
+        ensures lawful { IsEngine self.new }
     {
         self.wire.write(&self.frame);
         give_back(self.ring, &mut self.device, &mut self.frame);

@@ -60,3 +60,6 @@ returns-clause-looked g c = let e : EngineSees = engine_of (g.R.DescRing.ring c.
       subst (λ (z : EngineSees). LooksNot z b) c.self.view_is (emit_looks e k whole d c.give_back.ensures.returned c.give_back.ensures.same c.give_back.ensures.lawful wire (c.write.ensures.bytes ∙ ap (λ (z : List Desc). e.wire.bytes ++ record_of (captured z)) c.deref.ensures.value) c.write.ensures.room c.write.ensures.fits),
       emit_told e k whole d c.give_back.ensures.returned c.give_back.ensures.same c.give_back.ensures.lawful wire (c.write.ensures.bytes ∙ ap (λ (z : List Desc). e.wire.bytes ++ record_of (captured z)) c.deref.ensures.value) c.write.ensures.room c.write.ensures.fits (subst IsTold (sym c.self.view_is) c.requires.told),
     )
+
+pub returns-clause-lawful : goal.returns-clause-lawful
+returns-clause-lawful g c = (invariant_of-self g c).0

@@ -38,3 +38,6 @@ returns-clause-told g c = let e : EngineSees = engine_of (g.R.DescRing.ring c.se
 
 pub returns-clause-held : goal.returns-clause-held
 returns-clause-held g c = (ap (λ (z : EngineSees). z.held) c.self.view_is, ap (λ (z : DeviceSees). z.fetched) c.fetch.ensures.list.1 ∙ ap (λ (z : EngineSees). z.device.fetched) c.self.view_is)
+
+pub returns-clause-lawful : goal.returns-clause-lawful
+returns-clause-lawful g c = (invariant_of-self g c).0
