@@ -133,7 +133,11 @@ module _ (e : EngineSees) (k : IsEngine e) where
 
     pub look_sends : Emits [] e looked
     look_sends = record {
-      ring = refl; port = refl; plan = refl; writer = refl; room = refl;
+      ring = refl;
+      port = refl;
+      plan = refl;
+      writer = refl;
+      room = refl;
       goes_on = grew_prefix Device e.device.seen d.seen (Looked Device n) f.0;
       frames_are = ap frames_of same_returned ∙ sym (append-nil (frames_of (returned e)));
       bytes = sym (append-nil e.wire.bytes);
@@ -179,7 +183,11 @@ module _ (e : EngineSees) (k : IsEngine e) where
 
     pub hold_sends : Emits [] e holding
     hold_sends = record {
-      ring = refl; port = refl; plan = refl; writer = refl; room = refl;
+      ring = refl;
+      port = refl;
+      plan = refl;
+      writer = refl;
+      room = refl;
       goes_on = ([], append-nil e.device.seen ∙ sym seen_same);
       frames_are = ap (λ (z : List Event). frames_of (sent Device z)) seen_same ∙ sym (append-nil (frames_of (returned e)));
       bytes = sym (append-nil e.wire.bytes);
@@ -260,7 +268,11 @@ module _ (e : EngineSees) (k : IsEngine e) where
 
     pub emit_sends : Emits (frame ∷ []) e emptied
     emit_sends = record {
-      ring = refl; port = refl; plan = refl; writer = refl; room = room;
+      ring = refl;
+      port = refl;
+      plan = refl;
+      writer = refl;
+      room = room;
       goes_on = grew_prefix Device e.device.seen d.seen step g;
       frames_are = frames_are;
       bytes = bytes ∙ ap (λ (z : List ℕ). e.wire.bytes ++ z) (sym (flat_one (captured e.held)) ∙ ap (λ (z : Frame). flat_map record_of (z ∷ [])) (sym (captured_emitted e.held)));

@@ -7,6 +7,8 @@
 
 mod engine;
 mod plan;
+#[cfg(test)]
+mod tests;
 mod tried;
 mod wire;
 

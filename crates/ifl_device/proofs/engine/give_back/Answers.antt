@@ -1,7 +1,7 @@
-use Rattle.std.proofs.Common.{◌≡◌, ℕ, ◌+◌, ◌<◌, ◌∙◌, sym, subst, ap, inr, arith, List, [], ◌∷◌, ◌++◌, length}
+use Rattle.std.proofs.Common.{◌∙◌, sym, subst, inr, List, ◌∷◌}
 use Rattle.ifl_desc.specs.declared.desc.Desc.{Desc}
 use Rattle.ifl_desc.specs.Ends.{DeviceSees}
-use Rattle.ifl_device.proofs.Returning.{Giving, popped, more_left, completed_one, none_left}
+use Rattle.ifl_device.proofs.Returning.{Giving, popped, completed_one}
 use Rattle.ifl_device.proofs.engine.give_back.Goals as goal
 
 pub loop-d-preserved : goal.loop-d-preserved

@@ -1,4 +1,4 @@
-use Rattle.std.proofs.Common.{◌≡◌, ℕ, ◌⊎◌, List, length}
+use Rattle.std.proofs.Common.{◌≡◌, ◌⊎◌, List, length}
 use mathlib.Core.List.{reverse}
 use Rattle.std.specs.Prelude.{vec_capacity}
 use Rattle.ifl_desc.specs.declared.desc.Desc.{Desc}

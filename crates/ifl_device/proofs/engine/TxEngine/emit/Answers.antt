@@ -1,12 +1,10 @@
-use Rattle.std.proofs.Common.{◌≡◌, ℕ, suc, ◌+◌, ◌-◌, ◌^◌, ◌<◌, ◌≤◌, ◌∙◌, ap, sym, subst, arith, refl, inl, inr, true, false, List, [], ◌∷◌, ◌++◌, length, map, rules}
+use Rattle.std.proofs.Common.{◌+◌, ◌^◌, ◌<◌, ◌≤◌, ◌∙◌, ap, sym, subst, arith, List, [], ◌∷◌, ◌++◌, length, map}
 use Rattle.ifl_desc.specs.declared.desc.Desc.{Desc}
-use Rattle.ifl_desc.specs.declared.history.Side.TheVariants.{Driver, Device}
-use Rattle.ifl_desc.specs.History.{sent, known}
-use Rattle.ifl_desc.specs.Ends.{DeviceSees, IsDevice}
+use Rattle.ifl_desc.specs.Ends.{DeviceSees}
 use Rattle.ifl_pcap.specs.File.{record_of}
 use Rattle.ifl_device.specs.Adapter.{captured, IsWholeFrame, emitted_as, record_size}
 use Rattle.ifl_device.specs.Wire.{WireSees, left_in}
-use Rattle.ifl_device.specs.Engine.{EngineSees, IsEngine, IsHeld, Emits, LooksOnce, LooksNot, IsTold, IsDrained, IsFull, TriedOne, engine_of, returned}
+use Rattle.ifl_device.specs.Engine.{EngineSees, IsEngine, Emits, LooksNot, IsTold, engine_of}
 use Rattle.ifl_device.proofs.Engines.{emit_engine, emit_sends, emit_looks, emit_told, few_emitted, some_held}
 use Rattle.ifl_device.proofs.engine.TxEngine.emit.Goals as goal
 
@@ -55,8 +53,7 @@ returns-clause-looked g c = let e : EngineSees = engine_of (g.R.DescRing.ring c.
     let d : DeviceSees = g.R.DescRing.device_sees c.give_back.new.device in let wire : WireSees = c.write.new.self in
     let whole : IsWholeFrame e.held = subst (λ (z : EngineSees). IsWholeFrame z.held) (sym c.self.view_is) c.requires.frame in
     let b : EngineSees = engine_of e.ring e.port e.plan d e.writer wire [] (e.emitted + 1) in
-    let none = c.give_back.ensures.none.0 in
-    (
+    let none = c.give_back.ensures.none.0 in (
       subst (λ (z : EngineSees). LooksNot z b) c.self.view_is (emit_looks e k whole d c.give_back.ensures.returned c.give_back.ensures.same c.give_back.ensures.lawful wire (c.write.ensures.bytes ∙ ap (λ (z : List Desc). e.wire.bytes ++ record_of (captured z)) c.deref.ensures.value) c.write.ensures.room c.write.ensures.fits),
       emit_told e k whole d c.give_back.ensures.returned c.give_back.ensures.same c.give_back.ensures.lawful wire (c.write.ensures.bytes ∙ ap (λ (z : List Desc). e.wire.bytes ++ record_of (captured z)) c.deref.ensures.value) c.write.ensures.room c.write.ensures.fits (subst IsTold (sym c.self.view_is) c.requires.told),
     )

@@ -1,11 +1,7 @@
-use Rattle.std.proofs.Common.{◌≡◌, ℕ, suc, ◌+◌, ◌-◌, ◌^◌, ◌<◌, ◌≤◌, ◌∙◌, ap, sym, subst, arith, refl, inl, inr, true, false, List, [], ◌∷◌, ◌++◌, length, map, rules}
+use Rattle.std.proofs.Common.{◌∙◌, ap, sym, subst, List}
 use Rattle.ifl_desc.specs.declared.desc.Desc.{Desc}
-use Rattle.ifl_desc.specs.declared.history.Side.TheVariants.{Driver, Device}
-use Rattle.ifl_desc.specs.History.{sent, known}
-use Rattle.ifl_desc.specs.Ends.{DeviceSees, IsDevice}
-use Rattle.ifl_device.specs.Adapter.{IsWholeFrame, emitted_as, record_size}
-use Rattle.ifl_device.specs.Wire.{WireSees, left_in}
-use Rattle.ifl_device.specs.Engine.{EngineSees, IsEngine, IsHeld, Emits, LooksOnce, LooksNot, IsTold, IsDrained, IsFull, TriedOne, engine_of, returned}
+use Rattle.ifl_device.specs.Wire.{WireSees}
+use Rattle.ifl_device.specs.Engine.{IsEngine, engine_of}
 use Rattle.ifl_device.proofs.Engines.{new_engine}
 use Rattle.ifl_device.proofs.engine.TxEngine.new.Goals as goal
 

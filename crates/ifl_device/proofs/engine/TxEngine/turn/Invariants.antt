@@ -1,4 +1,3 @@
-use Rattle.std.proofs.Common.{◌≡◌, ℕ}
 use Rattle.ifl_device.proofs.Moves.{SoFar}
 use Rattle.ifl_device.proofs.engine.TxEngine.turn.Given as goal
 
