@@ -246,7 +246,7 @@ impl<'a, R: DescRing> TxEngine<'a, R> {
 }
 
 impl<'a, R: DescRing> Kept for TxEngine<'a, R> {
-    type Origin = EngineOrigin;
+    type Origin = EngineOrigin<R>;
 
     ghost origin = { λ e. record { plan = e.plan; room = e.wire.room; ring = e.ring; port = e.port } };
 }

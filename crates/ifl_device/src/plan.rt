@@ -1,7 +1,7 @@
 //! What an engine is told and what it answers.
-ghost use Rattle.atomic_table.specs.Seated.{TableId};
-
+use ifl_desc::{DescRing, Port};
 use std::marker::Model;
+use std::snapshot::Snapshot;
 
 /// When an engine hangs, loses its link and is stopped, all counted in frames emitted.
 #[derive(Clone, Copy, Debug, PartialEq, Eq)]
@@ -38,17 +38,17 @@ pub enum Turn {
 }
 
 /// With what an engine was made. No value of it is made.
-pub struct EngineOrigin {
+pub struct EngineOrigin<R: DescRing> {
     plan: EnginePlan,
     room: u64,
-    ghost ring: { TableId },
-    ghost port: { TableId },
+    ring: Snapshot<R>,
+    port: Snapshot<Port>,
 }
 
-impl Model for EngineOrigin {
+impl<R: DescRing> Model for EngineOrigin<R> {
     ghost use Rattle.ifl_device.specs.Origin.{Origin};
 
     ghost Value = { Origin };
 
-    ghost view = { λ o. record { plan = o.plan; room = o.room; ring = o.ring; port = o.port } };
+    ghost view = { λ o. record { plan = o.plan; room = o.room; ring = R.ring o.ring.value; port = o.port.value } };
 }
