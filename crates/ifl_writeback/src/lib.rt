@@ -13,3 +13,6 @@ mod ring;
 pub use closed::WritebackClosed;
 pub use ends::{WritebackDevice, WritebackDriver};
 pub use ring::WritebackRing;
+
+#[cfg(test)]
+mod tests;
