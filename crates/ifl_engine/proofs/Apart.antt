@@ -3,8 +3,8 @@ use Rattle.std.proofs.Common.{◌≡◌, ◌≢◌, ℕ, Bool, true, false, cond
 use Rattle.std.specs.Prelude.{◌==◌, length, codes}
 use Rattle.std.specs.Str.{bytes_eq}
 use Rattle.std.proofs.lemmas.Slice.Eq.{bytes_eq-Decides}
-use Rattle.ifl_engine.specs.declared.words.WordFault.{WordFault}
-use Rattle.ifl_engine.specs.declared.words.WordFault.TheVariants as fault
+use Rattle.ifl_conf.specs.declared.word_fault.WordFault.{WordFault}
+use Rattle.ifl_conf.specs.declared.word_fault.WordFault.TheVariants as fault
 use Rattle.ifl_engine.specs.Words.{Named, Asked, send, trace, asked, asked_send, asked_trace, word, is_command, is_name, is_form, is_named_twice, named}
 
 passed : {A : Type 0} (b : Bool) (e : WordFault) (r : Result A WordFault) (y : A) → cond b r (Err e) ≡ Ok y → (b ≡ true) × (r ≡ Ok y)

@@ -38,8 +38,8 @@ clause_failed files names w before after result h = from_files files (Answering 
 pub clause_complete : (files : Option Files) (names : Named) (w : Source → Result Work Stop) (before after : Seen) (result : Finished) → ForFiles files (Answering names w before after result) → ¬ Rose before.faults after.faults → ForFiles files (λ source. IsCalledFor (w source) result.status)
 clause_complete files names w before after result h steady = for_each files (Answering names w before after result) (λ source. IsCalledFor (w source) result.status) (λ source a. called_for (w source) result.status a.status (λ five. steady (a.failed five))) h
 
-pub clause_good : (files : Option Files) (names : Named) (w : Source → Result Work Stop) (before after : Seen) (result : Finished) → ForFiles files (Answering names w before after result) → IfSome result.report (λ r. ForFiles files (λ source. IfSending (w source) (λ captures. IsGood captures r)))
-clause_good files names w before after result h = for_report result.report files (λ source r. IfSending (w source) (λ captures. IsGood captures r)) (for_each files (Answering names w before after result) (λ source. IfSome result.report (λ r. IfSending (w source) (λ captures. IsGood captures r))) (λ source a. a.good) h)
+pub clause_good : (files : Option Files) (names : Named) (w : Source → Result Work Stop) (before after : Seen) (result : Finished) → ForFiles files (Answering names w before after result) → IfSome result.report (λ r. ForFiles files (λ source. IfSending (w source) (λ max_frame captures. IsGood max_frame captures r)))
+clause_good files names w before after result h = for_report result.report files (λ source r. IfSending (w source) (λ max_frame captures. IsGood max_frame captures r)) (for_each files (Answering names w before after result) (λ source. IfSome result.report (λ r. IfSending (w source) (λ max_frame captures. IsGood max_frame captures r))) (λ source a. a.good) h)
 
 pub clause_there : (files : Option Files) (names : Named) (w : Source → Result Work Stop) (before after : Seen) (result : Finished) → ForFiles files (Answering names w before after result) → result.status ≡ 0 → ForFiles files (λ source. IsReported (w source) result.report)
 clause_there files names w before after result h zero = for_each files (Answering names w before after result) (λ source. IsReported (w source) result.report) (λ source a. a.there zero) h

@@ -30,8 +30,8 @@ abbrev fits : Option Judged → Bool
 fits None = false
 fits (Some v) = is_fit_verdict v
 
-abbrev fit_at : List (List Frame) → Ticket → Bool
-fit_at captures t = fits (verdict_at captures t)
+abbrev fit_at : ℕ → List (List Frame) → Ticket → Bool
+fit_at max_frame captures t = fits (verdict_at max_frame captures t)
 
 abbrev order_ticket : OrderLine → Ticket
 order_ticket l = l.ticket
@@ -40,12 +40,12 @@ abbrev away_ticket : AwayLine → Ticket
 away_ticket l = l.ticket
 
 -- the lines of the records from k on
-record Parts (captures : List (List Frame)) (k : ℕ) (fs : List Frame) (order : List OrderLine) (turned : List AwayLine) : Type 0 where
-  order_tickets : map order_ticket order ≡ filter (fit_at captures) (tickets_from 0 k fs)
-  away_tickets : map away_ticket turned ≡ filter (λ t. not (fit_at captures t)) (tickets_from 0 k fs)
-  sent : emitted captures order ≡ filter is_fit fs
-  fit : All (λ (l : OrderLine). verdict_at captures l.ticket ≡ Some judged.Fit) order
-  turned_away : All (λ (l : AwayLine). verdict_at captures l.ticket ≡ Some (verdict_for l.away)) turned
+record Parts (max_frame : ℕ) (captures : List (List Frame)) (k : ℕ) (fs : List Frame) (order : List OrderLine) (turned : List AwayLine) : Type 0 where
+  order_tickets : map order_ticket order ≡ filter (fit_at max_frame captures) (tickets_from 0 k fs)
+  away_tickets : map away_ticket turned ≡ filter (λ t. not (fit_at max_frame captures t)) (tickets_from 0 k fs)
+  sent : emitted captures order ≡ filter (is_fit max_frame) fs
+  fit : All (λ (l : OrderLine). verdict_at max_frame captures l.ticket ≡ Some judged.Fit) order
+  turned_away : All (λ (l : AwayLine). verdict_at max_frame captures l.ticket ≡ Some (verdict_for l.away)) turned
   order_above : All (λ (l : OrderLine). k ≤ l.ticket.index) order
   away_above : All (λ (l : AwayLine). (l.ticket.sender ≡ 0) × (k ≤ l.ticket.index)) turned
   in_file_order : AllPairs IsInFileOrder order
@@ -57,54 +57,54 @@ lower k order h = λ i d lt. let above = h i d lt in omega arith
 away_lower : (k : ℕ) (turned : List AwayLine) → All (λ (l : AwayLine). (l.ticket.sender ≡ 0) × (k + 1 ≤ l.ticket.index)) turned → All (λ (l : AwayLine). (l.ticket.sender ≡ 0) × (k ≤ l.ticket.index)) turned
 away_lower k turned h = λ i d lt. let above = h i d lt in (above.0, omega arith)
 
-step : (captures : List (List Frame)) (k : ℕ) (f : Frame) (fs : List Frame) (order : List OrderLine) (turned : List AwayLine) (v : Judged) → judged_of f ≡ v → verdict_at captures (ticket 0 k) ≡ Some v → frame_of captures (ticket 0 k) ≡ Some f
-    → Parts captures (k + 1) fs order turned → Parts captures k (f ∷ fs) (order_by v k ++ order) (away_by v k ++ turned)
+step : (max_frame : ℕ) (captures : List (List Frame)) (k : ℕ) (f : Frame) (fs : List Frame) (order : List OrderLine) (turned : List AwayLine) (v : Judged) → judged_of max_frame f ≡ v → verdict_at max_frame captures (ticket 0 k) ≡ Some v → frame_of captures (ticket 0 k) ≡ Some f
+    → Parts max_frame captures (k + 1) fs order turned → Parts max_frame captures k (f ∷ fs) (order_by v k ++ order) (away_by v k ++ turned)
 unfolding is_fit
-step captures k f fs order turned judged.Fit is at found rest =
+step max_frame captures k f fs order turned judged.Fit is at found rest =
     let line : OrderLine = record { ticket = ticket 0 k; fate = fate.Wire } in
-    let passes : is_fit f ≡ true = ap is_fit_verdict is in
+    let passes : is_fit max_frame f ≡ true = ap is_fit_verdict is in
     record {
       order_tickets = rw at (ap (λ (ts : List Ticket). ticket 0 k ∷ ts) rest.order_tickets);
       away_tickets = rw at rest.away_tickets;
       sent = rw (found, passes) (ap (λ (gs : List Frame). f ∷ gs) rest.sent);
-      fit = All-cons (λ (l : OrderLine). verdict_at captures l.ticket ≡ Some judged.Fit) line order at rest.fit;
+      fit = All-cons (λ (l : OrderLine). verdict_at max_frame captures l.ticket ≡ Some judged.Fit) line order at rest.fit;
       turned_away = rest.turned_away;
       order_above = All-cons (λ (l : OrderLine). k ≤ l.ticket.index) line order (omega arith) (lower k order rest.order_above);
       away_above = away_lower k turned rest.away_above;
       in_file_order = AllPairs-cons IsInFileOrder line order (λ i d lt. λ same. let above = rest.order_above i d lt in omega arith) rest.in_file_order;
       away_in_order = rest.away_in_order;
     }
-step captures k f fs order turned judged.Runt is at found rest =
+step max_frame captures k f fs order turned judged.Runt is at found rest =
     let line : AwayLine = record { ticket = ticket 0 k; away = away.Runt } in
-    let fails : is_fit f ≡ false = ap is_fit_verdict is in
+    let fails : is_fit max_frame f ≡ false = ap is_fit_verdict is in
     record {
       order_tickets = rw at rest.order_tickets;
       away_tickets = rw at (ap (λ (ts : List Ticket). ticket 0 k ∷ ts) rest.away_tickets);
       sent = rw fails rest.sent;
       fit = rest.fit;
-      turned_away = All-cons (λ (l : AwayLine). verdict_at captures l.ticket ≡ Some (verdict_for l.away)) line turned at rest.turned_away;
+      turned_away = All-cons (λ (l : AwayLine). verdict_at max_frame captures l.ticket ≡ Some (verdict_for l.away)) line turned at rest.turned_away;
       order_above = lower k order rest.order_above;
       away_above = All-cons (λ (l : AwayLine). (l.ticket.sender ≡ 0) × (k ≤ l.ticket.index)) line turned (refl, omega arith) (away_lower k turned rest.away_above);
       in_file_order = rest.in_file_order;
       away_in_order = AllPairs-cons IsBefore line turned (λ i d lt. let above = rest.away_above i d lt in inr (sym above.0, omega arith)) rest.away_in_order;
     }
-step captures k f fs order turned judged.Oversize is at found rest =
+step max_frame captures k f fs order turned judged.Oversize is at found rest =
     let line : AwayLine = record { ticket = ticket 0 k; away = away.Oversize } in
-    let fails : is_fit f ≡ false = ap is_fit_verdict is in
+    let fails : is_fit max_frame f ≡ false = ap is_fit_verdict is in
     record {
       order_tickets = rw at rest.order_tickets;
       away_tickets = rw at (ap (λ (ts : List Ticket). ticket 0 k ∷ ts) rest.away_tickets);
       sent = rw fails rest.sent;
       fit = rest.fit;
-      turned_away = All-cons (λ (l : AwayLine). verdict_at captures l.ticket ≡ Some (verdict_for l.away)) line turned at rest.turned_away;
+      turned_away = All-cons (λ (l : AwayLine). verdict_at max_frame captures l.ticket ≡ Some (verdict_for l.away)) line turned at rest.turned_away;
       order_above = lower k order rest.order_above;
       away_above = All-cons (λ (l : AwayLine). (l.ticket.sender ≡ 0) × (k ≤ l.ticket.index)) line turned (refl, omega arith) (away_lower k turned rest.away_above);
       in_file_order = rest.in_file_order;
       away_in_order = AllPairs-cons IsBefore line turned (λ i d lt. let above = rest.away_above i d lt in inr (sym above.0, omega arith)) rest.away_in_order;
     }
 
-nothing : (captures : List (List Frame)) (k : ℕ) → Parts captures k [] [] []
-nothing captures k = record {
+nothing : (max_frame : ℕ) (captures : List (List Frame)) (k : ℕ) → Parts max_frame captures k [] [] []
+nothing max_frame captures k = record {
   order_tickets = refl;
   away_tickets = refl;
   sent = refl;
@@ -116,14 +116,14 @@ nothing captures k = record {
   away_in_order = λ i j d lt lt'. absurd (omega arith);
 }
 
-parts : (captures : List (List Frame)) (k : ℕ) (fs : List Frame) → ((i : ℕ) → frame_of captures (ticket 0 (k + i)) ≡ slice_get fs i) → Parts captures k fs (flat_map order_part (enumerate_from k fs)) (flat_map away_part (enumerate_from k fs))
+parts : (max_frame : ℕ) (captures : List (List Frame)) (k : ℕ) (fs : List Frame) → ((i : ℕ) → frame_of captures (ticket 0 (k + i)) ≡ slice_get fs i) → Parts max_frame captures k fs (flat_map (order_part max_frame) (enumerate_from k fs)) (flat_map (away_part max_frame) (enumerate_from k fs))
 unfolding order_part away_part
-parts captures k [] at = nothing captures k
-parts captures k (f ∷ fs) at =
+parts max_frame captures k [] at = nothing max_frame captures k
+parts max_frame captures k (f ∷ fs) at =
     let here : frame_of captures (ticket 0 k) ≡ Some f = ap (λ (n : ℕ). frame_of captures (ticket 0 n)) (omega arith) ∙ at 0 in
-    let verdict : verdict_at captures (ticket 0 k) ≡ Some (judged_of f) = ap (option_map (λ (g : Frame). verdict_of (length g.bytes) 65536)) here in
+    let verdict : verdict_at max_frame captures (ticket 0 k) ≡ Some (judged_of max_frame f) = ap (option_map (λ (g : Frame). verdict_of (length g.bytes) max_frame)) here in
     let later : (i : ℕ) → frame_of captures (ticket 0 ((k + 1) + i)) ≡ slice_get fs i = λ i. ap (λ (n : ℕ). frame_of captures (ticket 0 n)) (omega arith) ∙ at (suc i) in
-    step captures k f fs (flat_map order_part (enumerate_from (k + 1) fs)) (flat_map away_part (enumerate_from (k + 1) fs)) (judged_of f) refl verdict here (parts captures (k + 1) fs later)
+    step max_frame captures k f fs (flat_map (order_part max_frame) (enumerate_from (k + 1) fs)) (flat_map (away_part max_frame) (enumerate_from (k + 1) fs)) (judged_of max_frame f) refl verdict here (parts max_frame captures (k + 1) fs later)
 
 one_file : (fs : List Frame) (i : ℕ) → frame_of (fs ∷ []) (ticket 0 (0 + i)) ≡ slice_get fs i
 one_file fs i = ap (slice_get fs) (omega arith)
@@ -144,23 +144,23 @@ plain_is p q a b c d e f g h i j =
     let same : made p.frames p.wire p.wire_bytes p.runt p.oversize p.no_buffers p.no_clusters p.too_many_segments p.reset p.flush ≡ made q.frames q.wire q.wire_bytes q.runt q.oversize q.no_buffers q.no_clusters q.too_many_segments q.reset q.flush = rw (a, b, c, d, e, f, g, h, i, j) refl in
     same
 
-pub good : (fs : List Frame) (r : Report) → r.order ≡ order_of fs → r.away ≡ away_of fs → r.wire ≡ written (filter is_fit fs) → r.plain.frames ≡ length fs → r.plain.wire ≡ length r.order → r.plain.wire_bytes ≡ sum_by (λ (f : Frame). length f.bytes) (filter is_fit fs)
+pub good : (max_frame : ℕ) (fs : List Frame) (r : Report) → r.order ≡ order_of max_frame fs → r.away ≡ away_of max_frame fs → r.wire ≡ written (filter (is_fit max_frame) fs) → r.plain.frames ≡ length fs → r.plain.wire ≡ length r.order → r.plain.wire_bytes ≡ sum_by (λ (f : Frame). length f.bytes) (filter (is_fit max_frame) fs)
     → r.plain.runt ≡ count_by (λ (l : AwayLine). is_runt l.away) r.away → r.plain.oversize ≡ count_by (λ (l : AwayLine). is_oversize l.away) r.away
-    → r.plain.no_buffers ≡ 0 → r.plain.no_clusters ≡ 0 → r.plain.too_many_segments ≡ 0 → r.plain.reset ≡ 0 → r.plain.flush ≡ 0 → IsGood (fs ∷ []) r
-good fs r order-is away-is wire-is n w b ru ov z1 z2 z3 z4 z5 =
-    let p = parts (fs ∷ []) 0 fs (one_file fs) in
+    → r.plain.no_buffers ≡ 0 → r.plain.no_clusters ≡ 0 → r.plain.too_many_segments ≡ 0 → r.plain.reset ≡ 0 → r.plain.flush ≡ 0 → IsGood max_frame (fs ∷ []) r
+good max_frame fs r order-is away-is wire-is n w b ru ov z1 z2 z3 z4 z5 =
+    let p = parts max_frame (fs ∷ []) 0 fs (one_file fs) in
     let all : all_tickets (fs ∷ []) ≡ tickets_from 0 0 fs = append-nil (tickets_from 0 0 fs) in
-    let both : IsPermutation (tickets_from 0 0 fs) (filter (fit_at (fs ∷ [])) (tickets_from 0 0 fs) ++ filter (λ t. not (fit_at (fs ∷ []) t)) (tickets_from 0 0 fs)) = IsPermutation-filter_both (fit_at (fs ∷ [])) (λ t. not (fit_at (fs ∷ []) t)) (λ t. refl) (tickets_from 0 0 fs) in
-    let same : filter (fit_at (fs ∷ [])) (tickets_from 0 0 fs) ++ filter (λ t. not (fit_at (fs ∷ []) t)) (tickets_from 0 0 fs) ≡ map order_ticket r.order ++ map away_ticket r.away = rw (order-is, away-is, p.order_tickets, p.away_tickets) refl in
-    let sent : emitted (fs ∷ []) r.order ≡ filter is_fit fs = ap (emitted (fs ∷ [])) order-is ∙ p.sent in
+    let both : IsPermutation (tickets_from 0 0 fs) (filter (fit_at max_frame (fs ∷ [])) (tickets_from 0 0 fs) ++ filter (λ t. not (fit_at max_frame (fs ∷ []) t)) (tickets_from 0 0 fs)) = IsPermutation-filter_both (fit_at max_frame (fs ∷ [])) (λ t. not (fit_at max_frame (fs ∷ []) t)) (λ t. refl) (tickets_from 0 0 fs) in
+    let same : filter (fit_at max_frame (fs ∷ [])) (tickets_from 0 0 fs) ++ filter (λ t. not (fit_at max_frame (fs ∷ []) t)) (tickets_from 0 0 fs) ≡ map order_ticket r.order ++ map away_ticket r.away = rw (order-is, away-is, p.order_tickets, p.away_tickets) refl in
+    let sent : emitted (fs ∷ []) r.order ≡ filter (is_fit max_frame) fs = ap (emitted (fs ∷ [])) order-is ∙ p.sent in
     let count : length (all_tickets (fs ∷ [])) ≡ length fs = ap length all ∙ length-tickets 0 0 fs in
     record {
       lawful = record {
         each_once = subst (λ (ts : List Ticket). IsPermutation ts (map order_ticket r.order ++ map away_ticket r.away)) (sym all) (subst (IsPermutation (tickets_from 0 0 fs)) same both);
         in_file_order = subst (AllPairs IsInFileOrder) (sym order-is) p.in_file_order;
         away_in_order = subst (AllPairs IsBefore) (sym away-is) p.away_in_order;
-        fit = subst (All (λ (l : OrderLine). verdict_at (fs ∷ []) l.ticket ≡ Some judged.Fit)) (sym order-is) p.fit;
-        turned_away = subst (All (λ (l : AwayLine). verdict_at (fs ∷ []) l.ticket ≡ Some (verdict_for l.away))) (sym away-is) p.turned_away;
+        fit = subst (All (λ (l : OrderLine). verdict_at max_frame (fs ∷ []) l.ticket ≡ Some judged.Fit)) (sym order-is) p.fit;
+        turned_away = subst (All (λ (l : AwayLine). verdict_at max_frame (fs ∷ []) l.ticket ≡ Some (verdict_for l.away))) (sym away-is) p.turned_away;
       };
       wire = wire-is ∙ ap written (sym sent);
       plain = plain_is r.plain (counts_of (fs ∷ []) r.order r.away) (n ∙ sym count) (w ∙ sym (all_on_wire r.order)) (b ∙ ap (sum_by (λ (f : Frame). length f.bytes)) (sym sent)) ru ov z1 z2 z3 z4 z5;

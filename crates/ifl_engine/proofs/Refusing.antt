@@ -1,8 +1,8 @@
 -- Words that are refused, and the status that they give.
 use Rattle.std.proofs.Common.{◌≡◌, ◌≢◌, ℕ, ◌<◌, [], None, Result, Ok, Err, refl, sym, ap, subst, arith, inl, inr}
 use Rattle.ifl_engine.specs.declared.report.Finished.{Finished}
-use Rattle.ifl_engine.specs.declared.words.WordFault.{WordFault}
-use Rattle.ifl_engine.specs.declared.words.WordFault.TheVariants as fault
+use Rattle.ifl_conf.specs.declared.word_fault.WordFault.{WordFault}
+use Rattle.ifl_conf.specs.declared.word_fault.WordFault.TheVariants as fault
 use Rattle.ifl_engine.specs.declared.stop.Stop.{Stop}
 use Rattle.ifl_engine.specs.declared.stop.Stop.TheVariants as stop
 use Rattle.ifl_engine.specs.Words.{Named, Asked}

@@ -18,12 +18,12 @@ RoseTwice before now = min (before + 2) (2 ^ 64 - 1) ≤ now
 
 -- what a run prints at its end: its counters, or the replay of its schedule
 abbrev pub IsEnding : Result Work Stop → Option Report → List ℕ → Type 0
-IsEnding (Ok (sending names captures)) report text = IsSomeAnd report (λ r. text ≡ counter_text_of r.plain)
+IsEnding (Ok (sending names max_frame captures)) report text = IsSomeAnd report (λ r. text ≡ counter_text_of r.plain)
 IsEnding (Ok (tracing schedule)) report text = (status : ℕ) × IsReplay schedule text status
 IsEnding (Err why) report text = ⊥
 
 abbrev pub IsReplaying : Result Work Stop → Type 0
-IsReplaying (Ok (sending names captures)) = ⊥
+IsReplaying (Ok (sending names max_frame captures)) = ⊥
 IsReplaying (Ok (tracing schedule)) = Unit {0}
 IsReplaying (Err why) = ⊥
 

@@ -1,5 +1,5 @@
 -- A lawful order record: which frames its lines name, and in which order.
-use Rattle.std.specs.Prelude.{◌≡◌, ◌<◌, ◌⊎◌, List, ◌++◌, map, Some, All, AllPairs}
+use Rattle.std.specs.Prelude.{◌≡◌, ◌<◌, ◌⊎◌, ℕ, List, ◌++◌, map, Some, All, AllPairs}
 use Rattle.std.specs.List.Sorted.{IsPermutation}
 use Rattle.ifl_base.specs.declared.fate.Away.{Away}
 use Rattle.ifl_base.specs.declared.fate.Away.TheVariants as away
@@ -22,7 +22,7 @@ abbrev pub verdict_for : Away → Judged
 verdict_for away.Runt = judged.Runt
 verdict_for away.Oversize = judged.Oversize
 
-pub record IsLawful (captures : List (List Frame)) (order : List OrderLine) (turned : List AwayLine) : Type 0 where
+pub record IsLawful (max_frame : ℕ) (captures : List (List Frame)) (order : List OrderLine) (turned : List AwayLine) : Type 0 where
   -- every record stands in exactly one line of the two lists, and no line names another
   pub each_once : IsPermutation (all_tickets captures) (map (λ l. l.ticket) order ++ map (λ l. l.ticket) turned)
   -- each sender's accepted frames stand in the order of its file
@@ -30,6 +30,6 @@ pub record IsLawful (captures : List (List Frame)) (order : List OrderLine) (tur
   -- the away lines stand in the order of sender and record
   pub away_in_order : AllPairs IsBefore turned
   -- accepted frames are fit
-  pub fit : All (λ l. verdict_at captures l.ticket ≡ Some judged.Fit) order
+  pub fit : All (λ l. verdict_at max_frame captures l.ticket ≡ Some judged.Fit) order
   -- the others are what their line says
-  pub turned_away : All (λ l. verdict_at captures l.ticket ≡ Some (verdict_for l.away)) turned
+  pub turned_away : All (λ l. verdict_at max_frame captures l.ticket ≡ Some (verdict_for l.away)) turned

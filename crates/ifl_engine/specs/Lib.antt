@@ -12,3 +12,4 @@ pub mod CutShort
 pub mod Answer
 pub mod PlainList
 pub mod Steps
+pub mod Loaded

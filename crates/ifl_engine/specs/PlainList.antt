@@ -11,16 +11,17 @@ use Rattle.ifl_engine.specs.declared.report.OrderLine.{OrderLine}
 use Rattle.ifl_engine.specs.declared.report.AwayLine.{AwayLine}
 use Rattle.ifl_engine.specs.Records.{ticket}
 
-abbrev pub judged_of : Frame → Judged
-judged_of f = verdict_of (length f.bytes) 65536
+-- a frame that may not be longer than max_frame
+abbrev pub judged_of : ℕ → Frame → Judged
+judged_of max_frame f = verdict_of (length f.bytes) max_frame
 
 abbrev pub is_fit_verdict : Judged → Bool
 is_fit_verdict judged.Fit = true
 is_fit_verdict judged.Runt = false
 is_fit_verdict judged.Oversize = false
 
-unfoldable pub is_fit : Frame → Bool
-is_fit f = is_fit_verdict (judged_of f)
+unfoldable pub is_fit : ℕ → Frame → Bool
+is_fit max_frame f = is_fit_verdict (judged_of max_frame f)
 
 abbrev pub order_by : Judged → ℕ → List OrderLine
 order_by judged.Fit k = record { ticket = ticket 0 k; fate = fate.Wire } ∷ []
@@ -33,14 +34,14 @@ away_by judged.Runt k = record { ticket = ticket 0 k; away = away.Runt } ∷ []
 away_by judged.Oversize k = record { ticket = ticket 0 k; away = away.Oversize } ∷ []
 
 -- the lines of one record
-unfoldable pub order_part : ℕ × Frame → List OrderLine
-order_part p = order_by (judged_of p.1) p.0
+unfoldable pub order_part : ℕ → ℕ × Frame → List OrderLine
+order_part max_frame p = order_by (judged_of max_frame p.1) p.0
 
-unfoldable pub away_part : ℕ × Frame → List AwayLine
-away_part p = away_by (judged_of p.1) p.0
+unfoldable pub away_part : ℕ → ℕ × Frame → List AwayLine
+away_part max_frame p = away_by (judged_of max_frame p.1) p.0
 
-abbrev pub order_of : List Frame → List OrderLine
-order_of frames = flat_map order_part (enumerate_from 0 frames)
+abbrev pub order_of : ℕ → List Frame → List OrderLine
+order_of max_frame frames = flat_map (order_part max_frame) (enumerate_from 0 frames)
 
-abbrev pub away_of : List Frame → List AwayLine
-away_of frames = flat_map away_part (enumerate_from 0 frames)
+abbrev pub away_of : ℕ → List Frame → List AwayLine
+away_of max_frame frames = flat_map (away_part max_frame) (enumerate_from 0 frames)

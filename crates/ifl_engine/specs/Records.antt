@@ -25,6 +25,6 @@ all_tickets captures = all_from 0 captures
 abbrev pub frame_of : List (List Frame) → Ticket → Option Frame
 frame_of captures t = option_and_then (λ c. slice_get c t.index) (slice_get captures t.sender)
 
--- a fit frame has 14 bytes at least, and at most 65,536
-abbrev pub verdict_at : List (List Frame) → Ticket → Option Judged
-verdict_at captures t = option_map (λ f. verdict_of (length f.bytes) 65536) (frame_of captures t)
+-- a fit frame has 14 bytes at least, and at most max_frame
+abbrev pub verdict_at : ℕ → List (List Frame) → Ticket → Option Judged
+verdict_at max_frame captures t = option_map (λ f. verdict_of (length f.bytes) max_frame) (frame_of captures t)

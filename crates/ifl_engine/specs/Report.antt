@@ -1,5 +1,5 @@
 -- A good report: its order record is lawful, its wire capture is that of the order record, and its counts are those of the lines.
-use Rattle.std.specs.Prelude.{◌≡◌, Bool, true, false, List, length, None, count_by, sum_by, if◌then◌else◌}
+use Rattle.std.specs.Prelude.{◌≡◌, ℕ, Bool, true, false, List, length, None, count_by, sum_by, if◌then◌else◌}
 use Rattle.std.specs.List.{filter_map}
 use Rattle.ifl_base.specs.declared.fate.Fate.{Fate}
 use Rattle.ifl_base.specs.declared.fate.Fate.TheVariants as fate
@@ -44,8 +44,8 @@ counts_of captures order turned = record {
   flush = 0;
 }
 
--- the report is good for the captures
-pub record IsGood (captures : List (List Frame)) (r : Report) : Type 0 where
-  pub lawful : IsLawful captures r.order r.away
+-- the report is good for the captures, where no frame may be longer than max_frame
+pub record IsGood (max_frame : ℕ) (captures : List (List Frame)) (r : Report) : Type 0 where
+  pub lawful : IsLawful max_frame captures r.order r.away
   pub wire : r.wire ≡ written (emitted captures r.order)
   pub plain : r.plain ≡ counts_of captures r.order r.away

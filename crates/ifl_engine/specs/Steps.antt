@@ -21,12 +21,23 @@ pub record IsSmall (frames : List Frame) : Type 0 where
 -- what was read, seen by view, is what is to be read, or it stops for the same cause; the host and memory may fail at any time
 abbrev pub IsRead : {X Y : Type 0} → (X → Y) → Result X Stop → Result Y Stop → Type 0
 IsRead view (Ok x) read = read ≡ Ok (view x)
-IsRead view (Err stop.ReadFailed) read = Unit {0}
+IsRead view (Err (stop.ReadFailed which)) read = Unit {0}
 IsRead view (Err stop.Memory) read = Unit {0}
-IsRead view (Err stop.Absent) read = read ≡ Err stop.Absent
-IsRead view (Err stop.TooLong) read = read ≡ Err stop.TooLong
+IsRead view (Err (stop.Absent which)) read = read ≡ Err (stop.Absent which)
+IsRead view (Err (stop.TooLong which)) read = read ≡ Err (stop.TooLong which)
+IsRead view (Err (stop.Settings e)) read = read ≡ Err (stop.Settings e)
 IsRead view (Err (stop.Capture at why)) read = read ≡ Err (stop.Capture at why)
 IsRead view (Err e) read = ⊥
+
+-- the host failed to read a file
+abbrev pub IsReadFailure : Stop → Type 0
+IsReadFailure (stop.ReadFailed which) = Unit {0}
+IsReadFailure e = ⊥
+
+-- what was to be read was not, since the host failed
+abbrev pub IsReadFailed : {X : Type 0} → Result X Stop → Type 0
+IsReadFailed (Ok x) = ⊥
+IsReadFailed (Err why) = IsReadFailure why
 
 -- the stop for a call of the host that did not succeed
 abbrev pub stop_by : HostError → Stop → Stop
@@ -41,11 +52,15 @@ IsHostStop stop.OrderFailed before after = Rose before after
 IsHostStop stop.PrintFailed before after = Rose before after
 IsHostStop e before after = ⊥
 
--- the fault line was printed, and the answer is the status of the stop
-pub record IsTold (names : Named) (why : Stop) (before after : Seen) (answer : ℕ) : Type 0 where
+-- the text was printed, and the answer is the status of the stop
+pub record IsToldBy (text : List ℕ) (why : Stop) (before after : Seen) (answer : ℕ) : Type 0 where
   pub status : (answer ≡ status_of why) ⊎ (answer ≡ 6)
   pub later : before.faults ≤ after.faults
   pub files : after.files ≡ before.files
-  pub line : (answer ≡ 6) ⊎ (Rose before.faults after.faults ⊎ BothTold before.printed after.printed (λ was now. now ≡ was ++ line_of names why))
+  pub line : (answer ≡ 6) ⊎ (Rose before.faults after.faults ⊎ BothTold before.printed after.printed (λ was now. now ≡ was ++ text))
   -- never more than its beginning
-  pub begun : BothTold before.printed after.printed (λ was now. (k : ℕ) × (now ≡ was ++ take k (line_of names why)))
+  pub begun : BothTold before.printed after.printed (λ was now. (k : ℕ) × (now ≡ was ++ take k text))
+
+-- the fault line was printed, and the answer is the status of the stop
+abbrev pub IsTold : Named → Stop → Seen → Seen → ℕ → Type 0
+IsTold names why before after answer = IsToldBy (line_of names why) why before after answer

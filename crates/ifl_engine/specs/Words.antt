@@ -1,58 +1,60 @@
--- The words of the command line: `send --wire W --order O FILE` or `trace FILE`, and nothing else.
-use Rattle.std.specs.Prelude.{ℕ, List, [], ◌∷◌, length, Bool, false, ◌&&◌, ◌||◌, not, ◌==◌, Result, Ok, Err, if◌then◌else◌, slice_index_or, codes}
-use Rattle.std.specs.Str.{bytes_eq}
-use Rattle.ifl_engine.specs.declared.words.WordFault.{WordFault}
-use Rattle.ifl_engine.specs.declared.words.WordFault.TheVariants.{NoCommand, UnknownCommand, Refused, Names}
+-- What the words of the command line ask the engine for: to send a capture's frames, or to replay a schedule.
+use Rattle.std.specs.Prelude.{ℕ, List, [], ◌∷◌, Option, None, Some, Result, Ok, Err}
+use Rattle.ifl_conf.specs.declared.word_fault.WordFault.{WordFault}
+use Rattle.ifl_conf.specs.declared.word_fault.WordFault.TheVariants.{NoCommand, UnknownCommand, Refused, Names}
+use Rattle.ifl_conf.specs.declared.words.CommandName.{CommandName}
+use Rattle.ifl_conf.specs.declared.words.CommandName.TheVariants.{Send, Gen, Trace, Check}
+use Rattle.ifl_conf.specs.declared.words.OptionName.TheVariants.{Wire, Order, SettingsFile}
+use Rattle.ifl_conf.specs.Front.{Given}
+use Rattle.ifl_conf.specs.Grammar.{value_of}
+use Rattle.ifl_conf.specs.Reading.{Reading, no_command, unknown_command, refused, names, asks, reading}
 
 -- the files that a run reads and writes
 pub record Named : Type 0 where
+  pub settings : Option (List ℕ)
   pub wire : List ℕ
   pub order : List ℕ
   pub file : List ℕ
 
--- what the words ask for: to send a capture's frames, or to replay a schedule
+-- what the words ask for
 pub data Asked : Type 0 where
   send : (names : Named) → Asked
   trace : (file : List ℕ) → Asked
 
-abbrev pub word : List (List ℕ) → ℕ → List ℕ
-word words i = slice_index_or words i []
+-- a name, or the empty text where there is none
+abbrev pub or_empty : Option (List ℕ) → List ℕ
+or_empty None = []
+or_empty (Some name) = name
 
-abbrev pub is_command : List ℕ → Bool
-is_command w = bytes_eq w (codes "send") || (bytes_eq w (codes "gen") || (bytes_eq w (codes "trace") || bytes_eq w (codes "check")))
+-- the first name, or the empty text where there is none
+abbrev pub first_name : List (List ℕ) → List ℕ
+first_name [] = []
+first_name (name ∷ others) = name
 
--- a name is not empty and does not begin with a dash
-abbrev pub is_name : List ℕ → Bool
-is_name [] = false
-is_name (c ∷ cs) = not (c == 45)
+-- the files that the options and the FILE words of `send` name
+abbrev pub named : List Given → List (List ℕ) → Named
+named gs fs = record {
+  settings = value_of SettingsFile gs;
+  wire = or_empty (value_of Wire gs);
+  order = or_empty (value_of Order gs);
+  file = first_name fs;
+}
 
-abbrev pub is_form : List (List ℕ) → Bool
-is_form words =
-    bytes_eq (word words 1) (codes "--wire") && (is_name (word words 2) && (bytes_eq (word words 3) (codes "--order") && (is_name (word words 4) && is_name (word words 5))))
+-- what a command asks for with these options and FILE words
+abbrev pub asked_by : CommandName → List Given → List (List ℕ) → Result Asked WordFault
+asked_by Send gs fs = Ok (send (named gs fs))
+asked_by Gen gs fs = Err Refused
+asked_by Trace gs fs = Ok (trace (first_name fs))
+asked_by Check gs fs = Err Refused
 
--- two of the three names are one text
-abbrev pub is_named_twice : List (List ℕ) → Bool
-is_named_twice words = bytes_eq (word words 2) (word words 4) || (bytes_eq (word words 2) (word words 5) || bytes_eq (word words 4) (word words 5))
-
-abbrev pub named : List (List ℕ) → Named
-named words = record { wire = word words 2; order = word words 4; file = word words 5 }
-
--- what the words behind `send` ask for
-abbrev pub asked_send : List (List ℕ) → Result Asked WordFault
-asked_send words =
-    if length words == 6 then
-    (if is_form words then (if is_named_twice words then Err Names else Ok (send (named words))) else Err Refused)
-    else Err Refused
-
--- what the word behind `trace` asks for
-abbrev pub asked_trace : List (List ℕ) → Result Asked WordFault
-asked_trace words = if length words == 2 then (if is_name (word words 1) then Ok (trace (word words 1)) else Err Refused) else Err Refused
+-- what words that are read so ask for, or their first fault
+abbrev pub asked_of : Reading → Result Asked WordFault
+asked_of no_command = Err NoCommand
+asked_of unknown_command = Err UnknownCommand
+asked_of refused = Err Refused
+asked_of names = Err Names
+asked_of (asks c gs fs) = asked_by c gs fs
 
 -- what all words ask for, or their first fault
 unfoldable pub asked : List (List ℕ) → Result Asked WordFault
-asked words =
-    if length words == 0 then Err NoCommand else
-    (if is_command (word words 0) then
-    (if bytes_eq (word words 0) (codes "send") then asked_send words else
-    (if bytes_eq (word words 0) (codes "trace") then asked_trace words else Err Refused))
-    else Err UnknownCommand)
+asked words = asked_of (reading words)

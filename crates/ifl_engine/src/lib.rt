@@ -1,7 +1,7 @@
 //! The engine: what the program does with its words, over any host and any gate.
 //!
-//! It stands on `ifl_outside` (files, standard output, gates), `ifl_pcap` (captures) and `ifl_ringcore` (replays
-//! of schedules). Its one contract is that of [`run`]: at status 0 of `send` the order file lists the accepted
+//! It stands on `ifl_outside` (files, standard output, gates), `ifl_conf` (words and settings), `ifl_pcap` (captures)
+//! and `ifl_ringcore` (replays of schedules). Its one contract is that of [`run`]: at status 0 of `send` the order file lists the accepted
 //! frames, each once, in the order of its capture, with one fate; the wire file is exactly the frames with fate
 //! `wire`, in that order; every other frame stands in one named counter; and every status has its cause.
 //!
@@ -23,11 +23,10 @@ mod words;
 mod writing;
 
 pub use report::{AwayLine, Finished, OrderLine, Plain, Report};
-pub use stop::Stop;
+pub use stop::{Input, Stop};
 pub use texts::{counter_text, order_text};
 pub use top::run;
 pub use tracing::run_trace;
-pub use words::{Command, SendWords, WordFault, read_words};
 
 #[cfg(test)]
 mod tests;

@@ -1,37 +1,116 @@
-ghost use Rattle.std.specs.Prelude.{◌≡◌, ◌≤◌, ◌∷◌, [], length, IfOk, IsErrOf};
+ghost use Rattle.std.specs.Prelude.{◌≡◌, ◌≤◌, ◌∷◌, [], length, option_map, IfOk, IsErrOf};
 ghost use Rattle.ifl_outside.specs.Causes.{Rose};
 ghost use Rattle.ifl_engine.specs.Read.{names_of};
-ghost use Rattle.ifl_engine.specs.Wanted.{Source, file_at, captures_in, read_of};
+ghost use Rattle.ifl_engine.specs.Wanted.{file_at, settings_file, bytes_read, max_frame_in, captures_in, load_in, read_of};
 ghost use Rattle.ifl_engine.specs.Answer.{ForFiles};
-ghost use Rattle.ifl_engine.specs.Steps.{IsSmall, IsRead};
+ghost use Rattle.ifl_engine.specs.Steps.{IsSmall, IsRead, IsReadFailed};
+ghost use Rattle.ifl_engine.specs.declared.stop.Input.TheVariants as input;
+ghost use Rattle.ifl_engine.specs.Loaded.{bytes_seen, load_seen};
 
-use crate::stop::Stop;
-use crate::words::SendWords;
+use crate::stop::{Input, Stop};
+use crate::words::file_name;
 use ifl_base::FILE_MAX;
+use ifl_conf::{SendWords, SettingFault, Settings, read_settings};
 use ifl_outside::{Fetch, Host, HostError};
 use ifl_pcap::{Capture, CaptureFault, read_capture};
 use std::alloc::Global;
 
-/// Reads the file that the run reads first, of at most `limit` bytes.
+/// The most bytes of a settings file.
+const SETTINGS_MAX: u64 = 65_536;
+
+/// The bytes of the files that `send` reads.
+#[derive(Debug, Drop)]
+struct Files {
+    /// The settings file, where one is named.
+    settings: Option<Vec<u8>>,
+    /// The capture.
+    file: Vec<u8>,
+}
+
+/// What `send` goes by.
+#[derive(Debug, Drop)]
+pub struct Load {
+    /// The most bytes of a frame that may be sent, from 14 to 65,536.
+    pub max_frame: u32,
+    /// The capture whose frames are sent.
+    pub capture: Capture,
+}
+
+/// Reads a file of at most `limit` bytes.
 pub fn read_file<H: Host>(
     alloc: Global,
+    which: Input,
     name: &str,
     limit: u64,
     host: &mut H,
 ) -> Result<Vec<u8>, Stop>
-    ensures read { ForFiles (H.files host.old) (λ source. IsRead (λ v. v.items) result (file_at limit (source 0 name.now))) }
+    ensures read { ForFiles (H.files host.old) (λ source. IsRead (λ v. v.items) result (file_at which limit (source which name.now))) }
     ensures within { IfOk result (λ v. length v.items ≤ limit) }
     ensures files { H.files host.new ≡ H.files host.old }
     ensures printed { H.printed host.new ≡ H.printed host.old }
     ensures later { H.faults host.old ≤ H.faults host.new }
-    ensures failed { IsErrOf result Stop.ReadFailed → Rose (H.faults host.old) (H.faults host.new) }
+    ensures failed { IsReadFailed result → Rose (H.faults host.old) (H.faults host.new) }
 {
     match host.read(alloc, name, limit) {
         Ok(Fetch::Bytes(bytes)) => Ok(bytes),
-        Ok(Fetch::Absent) => Err(Stop::Absent),
-        Ok(Fetch::TooLong) => Err(Stop::TooLong),
-        Err(HostError::Failed) => Err(Stop::ReadFailed),
+        Ok(Fetch::Absent) => Err(Stop::Absent(which)),
+        Ok(Fetch::TooLong) => Err(Stop::TooLong(which)),
+        Err(HostError::Failed) => Err(Stop::ReadFailed(which)),
         Err(HostError::Memory) => Err(Stop::Memory),
+    }
+}
+
+/// Reads the settings file, where one is named.
+fn read_settings_file<H: Host>(
+    alloc: Global,
+    names: &SendWords,
+    host: &mut H,
+) -> Result<Option<Vec<u8>>, Stop>
+    ensures read { ForFiles (H.files host.old) (λ source. IsRead (option_map (λ v. v.items)) result (settings_file (names_of names.now).settings (source input.Settings))) }
+    ensures files { H.files host.new ≡ H.files host.old }
+    ensures printed { H.printed host.new ≡ H.printed host.old }
+    ensures later { H.faults host.old ≤ H.faults host.new }
+    ensures failed { IsReadFailed result → Rose (H.faults host.old) (H.faults host.new) }
+{
+    match &names.settings {
+        None => Ok(None),
+        Some(name) => match read_file(alloc, Input::Settings, name.as_str(), SETTINGS_MAX, host) {
+            Ok(bytes) => Ok(Some(bytes)),
+            Err(stop) => Err(stop),
+        },
+    }
+}
+
+/// Reads the settings file first, and then the capture's file.
+fn read_files<H: Host>(alloc: Global, names: &SendWords, host: &mut H) -> Result<Files, Stop>
+    ensures read { ForFiles (H.files host.old) (λ source. IsRead bytes_seen result (bytes_read (names_of names.now) (source input.Settings) (source input.File))) }
+    ensures within { IfOk result (λ f. length f.file.items ≤ 67108864) }
+    ensures files { H.files host.new ≡ H.files host.old }
+    ensures printed { H.printed host.new ≡ H.printed host.old }
+    ensures later { H.faults host.old ≤ H.faults host.new }
+    ensures failed { IsReadFailed result → Rose (H.faults host.old) (H.faults host.new) }
+{
+    match read_settings_file(alloc, names, host) {
+        Err(stop) => Err(stop),
+        Ok(settings) => match read_file(alloc, Input::File, file_name(names), FILE_MAX, host) {
+            Err(stop) => Err(stop),
+            Ok(file) => Ok(Files { settings, file }),
+        },
+    }
+}
+
+/// The most bytes of a frame: as the settings file has it, or the standard.
+fn max_frame(alloc: Global, files: &Files) -> Result<u32, Stop>
+    ensures read { IsRead (λ n. n) result (max_frame_in (option_map (λ v. v.items) files.now.settings)) }
+    ensures no_fault { IsReadFailed result → ⊥ }
+{
+    match &files.settings {
+        None => Ok(Settings::standard().frames.max_frame),
+        Some(bytes) => match read_settings(alloc, bytes) {
+            Ok(settings) => Ok(settings.frames.max_frame),
+            Err(SettingFault::Memory) => Err(Stop::Memory),
+            Err(fault) => Err(Stop::Settings(fault)),
+        },
     }
 }
 
@@ -40,7 +119,7 @@ fn parsed(alloc: Global, bytes: &[u8]) -> Result<Capture, Stop>
     requires { length bytes.now ≤ 67108864 }
     ensures read { IsRead (λ c. c.frames ∷ []) result (captures_in bytes.now) }
     ensures small { IfOk result (λ c. IsSmall c.frames) }
-    ensures no_fault { IsErrOf result Stop.ReadFailed → ⊥ }
+    ensures no_fault { IsReadFailed result → ⊥ }
 {
     match read_capture(alloc, bytes) {
         Ok(capture) => Ok(capture),
@@ -49,17 +128,33 @@ fn parsed(alloc: Global, bytes: &[u8]) -> Result<Capture, Stop>
     }
 }
 
-/// Reads the capture's file, whose bytes are given up once its frames are made.
-pub fn gathered<H: Host>(alloc: Global, names: &SendWords, host: &mut H) -> Result<Capture, Stop>
-    ensures read { ForFiles (H.files host.old) (λ source. IsRead (λ c. c.frames ∷ []) result (read_of (names_of names.now) source)) }
-    ensures small { IfOk result (λ c. IsSmall c.frames) }
+/// What the files say. The settings are looked at before the capture.
+fn loaded(alloc: Global, files: &Files) -> Result<Load, Stop>
+    requires { length files.now.file.items ≤ 67108864 }
+    ensures read { IsRead load_seen result (load_in (bytes_seen files.now)) }
+    ensures small { IfOk result (λ l. IsSmall l.capture.frames) }
+    ensures no_fault { IsReadFailed result → ⊥ }
+{
+    match max_frame(alloc, files) {
+        Err(stop) => Err(stop),
+        Ok(max_frame) => match parsed(alloc, &files.file) {
+            Err(stop) => Err(stop),
+            Ok(capture) => Ok(Load { max_frame, capture }),
+        },
+    }
+}
+
+/// Reads the files of `send`, whose bytes are given up once the frames are made.
+pub fn gathered<H: Host>(alloc: Global, names: &SendWords, host: &mut H) -> Result<Load, Stop>
+    ensures read { ForFiles (H.files host.old) (λ source. IsRead load_seen result (read_of (names_of names.now) source)) }
+    ensures small { IfOk result (λ l. IsSmall l.capture.frames) }
     ensures files { H.files host.new ≡ H.files host.old }
     ensures printed { H.printed host.new ≡ H.printed host.old }
     ensures later { H.faults host.old ≤ H.faults host.new }
-    ensures failed { IsErrOf result Stop.ReadFailed → Rose (H.faults host.old) (H.faults host.new) }
+    ensures failed { IsReadFailed result → Rose (H.faults host.old) (H.faults host.new) }
 {
-    match read_file(alloc, names.file.as_str(), FILE_MAX, host) {
-        Ok(bytes) => parsed(alloc, &bytes),
+    match read_files(alloc, names, host) {
+        Ok(files) => loaded(alloc, &files),
         Err(stop) => Err(stop),
     }
 }

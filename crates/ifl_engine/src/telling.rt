@@ -1,12 +1,13 @@
-ghost use Rattle.std.specs.Prelude.{◌≡◌, IfOk};
+ghost use Rattle.std.specs.Prelude.{◌≡◌, [], None, IfOk};
 ghost use Rattle.std.specs.String.{string_bytes};
 ghost use Rattle.ifl_engine.specs.Read.{names_of};
-ghost use Rattle.ifl_engine.specs.Wanted.{line_of, word_line};
+ghost use Rattle.ifl_engine.specs.Wanted.{line_for, word_line, setting_line, name_read as name_of_read};
 ghost use Rattle.ifl_engine.specs.Seen.{seen};
-ghost use Rattle.ifl_engine.specs.Steps.{IsTold};
+ghost use Rattle.ifl_engine.specs.Steps.{IsToldBy, IsTold};
 
-use crate::stop::{Stop, status};
-use crate::words::{SendWords, WordFault};
+use crate::stop::{Input, Stop, status};
+use crate::words::{file_name, settings_name};
+use ifl_conf::{SendWords, SettingFault, WordFault};
 use ifl_outside::{Host, HostError};
 use std::alloc::{AllocError, Global};
 
@@ -23,25 +24,58 @@ fn word_line(f: WordFault) -> &'static str
     }
 }
 
+/// The fault line of the settings.
+fn setting_line(alloc: Global, fault: SettingFault) -> Result<String, AllocError>
+    ensures { IfOk result (λ t. string_bytes t ≡ setting_line fault) }
+{
+    match fault {
+        SettingFault::Text => String::from_str(alloc, "settings: text\n"),
+        SettingFault::Unknown => String::from_str(alloc, "settings: unknown\n"),
+        SettingFault::Key(key) => format!(in alloc; "settings: {key}\n"),
+        SettingFault::Memory => String::from_str(alloc, "memory\n"),
+    }
+}
+
+/// The name of a file that is read.
+fn name_read<'a>(which: Input, settings: &'a str, file: &'a str) -> &'a str
+    ensures { result.now ≡ name_of_read settings.now file.now which }
+{
+    match which {
+        Input::Settings => settings,
+        Input::File => file,
+    }
+}
+
 /// The fault line.
 fn fault_line(
     alloc: Global,
+    settings: &str,
     wire: &str,
     order: &str,
     file: &str,
     stop: Stop,
 ) -> Result<String, AllocError>
-    ensures { IfOk result (λ t. string_bytes t ≡ line_of (record { wire = wire.now; order = order.now; file = file.now }) stop) }
+    ensures { IfOk result (λ t. string_bytes t ≡ line_for (record { settings = settings.now; wire = wire.now; order = order.now; file = file.now }) stop) }
 {
     match stop {
         Stop::Words(f) => String::from_str(alloc, word_line(f)),
-        Stop::Absent => format!(in alloc; "absent: {file}\n"),
-        Stop::TooLong => format!(in alloc; "limit: {file}\n"),
+        Stop::Absent(which) => {
+            let name = name_read(which, settings, file);
+            format!(in alloc; "absent: {name}\n")
+        }
+        Stop::TooLong(which) => {
+            let name = name_read(which, settings, file);
+            format!(in alloc; "limit: {name}\n")
+        }
+        Stop::Settings(fault) => setting_line(alloc, fault),
         Stop::Capture { at, why } => {
             let why = why.name();
             format!(in alloc; "capture: {file} at {at}: {why}\n")
         }
-        Stop::ReadFailed => format!(in alloc; "host: read {file}\n"),
+        Stop::ReadFailed(which) => {
+            let name = name_read(which, settings, file);
+            format!(in alloc; "host: read {name}\n")
+        }
         Stop::WireFailed => format!(in alloc; "host: write {wire}\n"),
         Stop::OrderFailed => format!(in alloc; "host: write {order}\n"),
         Stop::PrintFailed => String::from_str(alloc, "host: print\n"),
@@ -50,18 +84,19 @@ fn fault_line(
 }
 
 /// Prints the fault line, and answers the status.
-pub fn tell<H: Host>(
+fn tell_line<H: Host>(
     alloc: Global,
+    settings: &str,
     wire: &str,
     order: &str,
     file: &str,
     stop: Stop,
     host: &mut H,
 ) -> u8
-    ensures { IsTold (record { wire = wire.now; order = order.now; file = file.now }) stop
+    ensures { IsToldBy (line_for (record { settings = settings.now; wire = wire.now; order = order.now; file = file.now }) stop) stop
         (seen H.faults H.files H.printed host.old) (seen H.faults H.files H.printed host.new) result }
 {
-    match fault_line(alloc, wire, order, file, stop) {
+    match fault_line(alloc, settings, wire, order, file, stop) {
         Err(_) => 6,
         Ok(line) => match host.print(alloc, line.as_bytes()) {
             Ok(()) => status(stop),
@@ -71,16 +106,25 @@ pub fn tell<H: Host>(
     }
 }
 
-/// The same, for a run whose names are known.
+/// The same, where only the name of the capture or schedule may be told; `file` is empty where there is none.
+pub fn tell<H: Host>(alloc: Global, file: &str, stop: Stop, host: &mut H) -> u8
+    ensures { IsTold (record { settings = None; wire = []; order = []; file = file.now }) stop
+        (seen H.faults H.files H.printed host.old) (seen H.faults H.files H.printed host.new) result }
+{
+    tell_line(alloc, "", "", "", file, stop, host)
+}
+
+/// The same, for a run of `send`.
 pub fn tell_named<H: Host>(alloc: Global, names: &SendWords, stop: Stop, host: &mut H) -> u8
     ensures { IsTold (names_of names.now) stop
         (seen H.faults H.files H.printed host.old) (seen H.faults H.files H.printed host.new) result }
 {
-    tell(
+    tell_line(
         alloc,
+        settings_name(names),
         names.wire.as_str(),
         names.order.as_str(),
-        names.file.as_str(),
+        file_name(names),
         stop,
         host,
     )

@@ -2,7 +2,7 @@ ghost use Rattle.std.specs.Prelude.{◌≡◌, ◌≢◌, ◌∷◌, [], Ok, IfS
 ghost use Rattle.std.specs.String.{string_bytes};
 ghost use Rattle.ifl_outside.specs.Causes.{Rose};
 ghost use Rattle.ifl_outside.specs.Told.{BothTold};
-ghost use Rattle.ifl_engine.specs.Words.{asked, send};
+ghost use Rattle.ifl_engine.specs.Words.{asked as asked_by_words, send};
 ghost use Rattle.ifl_engine.specs.Read.{names_of};
 ghost use Rattle.ifl_engine.specs.Report.{IsGood};
 ghost use Rattle.ifl_engine.specs.Wanted.{sending, wanted, work_of, names_in};
@@ -13,29 +13,29 @@ ghost use Rattle.ifl_engine.specs.Answer.{ForFiles, IsAnswer, IsDone, IfSending,
 ghost use Rattle.ifl_engine.specs.Steps.{IsSmall};
 
 use crate::plain::report_of;
-use crate::reading::gathered;
+use crate::reading::{Load, gathered};
 use crate::report::Finished;
 use crate::stop::Stop;
 use crate::telling::{tell, tell_named};
 use crate::tracing::trace;
-use crate::words::{Command, SendWords, read_words};
+use crate::words::asked;
 use crate::writing::put_out;
 use ifl_base::NoMemory;
+use ifl_conf::{Command, SendWords, WordFault};
 use ifl_outside::{Gate, Host};
-use ifl_pcap::Capture;
 use std::alloc::Global;
 use std::sync::Wait;
 use std::thread::Threads;
 
 /// The run over the capture that was read.
-fn work<H: Host>(alloc: Global, names: &SendWords, capture: Capture, host: &mut H) -> Finished
-    requires small { IsSmall capture.frames }
+fn work<H: Host>(alloc: Global, names: &SendWords, load: Load, host: &mut H) -> Finished
+    requires small { IsSmall load.capture.frames }
     requires apart { string_bytes names.now.wire ≢ string_bytes names.now.order }
     ensures by_words { result.status ≢ 1 }
-    ensures answer { IsAnswer (names_of names.now) (Ok (sending (names_of names.now) (capture.frames ∷ [])))
+    ensures answer { IsAnswer (names_of names.now) (Ok (sending (names_of names.now) load.max_frame (load.capture.frames ∷ [])))
         (seen H.faults H.files H.printed host.old) (seen H.faults H.files H.printed host.new) result }
 {
-    match report_of(alloc, capture) {
+    match report_of(alloc, load.max_frame, load.capture) {
         Err(NoMemory) => {
             let status = tell_named(alloc, names, Stop::Memory, host);
             Finished {
@@ -67,7 +67,7 @@ fn send<H: Host>(alloc: Global, names: &SendWords, host: &mut H) -> Finished
         (seen H.faults H.files H.printed host.old) (seen H.faults H.files H.printed host.new) result) }
 {
     match gathered(alloc, names, host) {
-        Ok(capture) => work(alloc, names, capture, host),
+        Ok(load) => work(alloc, names, load, host),
         Err(stop) => {
             let status = tell_named(alloc, names, stop, host);
             Finished {
@@ -80,11 +80,11 @@ fn send<H: Host>(alloc: Global, names: &SendWords, host: &mut H) -> Finished
 
 /// The whole call, with one account of the files for all that is said of it.
 fn answer<H: Host>(alloc: Global, words: &[String], host: &mut H) -> Finished
-    ensures by_words { IsByWords (asked (map string_bytes words.now)) result.status }
+    ensures by_words { IsByWords (asked_by_words (map string_bytes words.now)) result.status }
     ensures answer { ForFiles (H.files host.old) (λ source. IsAnswer (names_in (map string_bytes words.now)) (wanted (map string_bytes words.now) source)
         (seen H.faults H.files H.printed host.old) (seen H.faults H.files H.printed host.new) result) }
 {
-    match read_words(alloc, words) {
+    match asked(alloc, words) {
         Ok(Command::Send(names)) => send(alloc, &names, host),
         Ok(Command::Trace { file }) => {
             let status = trace(alloc, file.as_str(), host);
@@ -93,8 +93,15 @@ fn answer<H: Host>(alloc: Global, words: &[String], host: &mut H) -> Finished
                 report: None,
             }
         }
+        Ok(Command::Gen(_) | Command::Check(_)) => {
+            let status = tell(alloc, "", Stop::Words(WordFault::Refused), host);
+            Finished {
+                status,
+                report: None,
+            }
+        }
         Err(fault) => {
-            let status = tell(alloc, "", "", "", Stop::Words(fault), host);
+            let status = tell(alloc, "", Stop::Words(fault), host);
             Finished {
                 status,
                 report: None,
@@ -115,7 +122,7 @@ pub fn run<R: Threads + Wait, H: Host, G: Gate>(
     _gate: &G,
 ) -> Finished
     // Status 1 comes exactly where the words are refused.
-    ensures words { IsByWords (asked (map string_bytes words.now)) result.status }
+    ensures words { IsByWords (asked_by_words (map string_bytes words.now)) result.status }
 
     // Each other status is the one that the words and the files call for, or 5 or 6.
     ensures status { ForFiles (H.files host.old) (λ source. IsStatus (wanted (map string_bytes words.now) source) result.status) }
@@ -129,7 +136,7 @@ pub fn run<R: Threads + Wait, H: Host, G: Gate>(
 
     // A report is good for the captures, wherever there is one.
     ensures good { IfSome result.report (λ r. ForFiles (H.files host.old) (λ source.
-        IfSending (wanted (map string_bytes words.now) source) (λ captures. IsGood captures r))) }
+        IfSending (wanted (map string_bytes words.now) source) (λ max_frame captures. IsGood max_frame captures r))) }
     ensures there { result.status ≡ 0 → ForFiles (H.files host.old) (λ source. IsReported (wanted (map string_bytes words.now) source) result.report) }
 
     // At status 0 the files and the printed bytes are those of the report, and nothing else has changed.

@@ -2,7 +2,7 @@ ghost use Rattle.std.specs.Prelude.{◌≡◌, ◌≢◌, ◌≤◌, ◌⊎◌, 
 ghost use Rattle.ifl_outside.specs.Causes.{Rose};
 ghost use Rattle.std.specs.String.{string_bytes};
 ghost use Rattle.ifl_ringcore.specs.Texts.{fault_line};
-ghost use Rattle.ifl_engine.specs.Words.{trace, asked};
+ghost use Rattle.ifl_engine.specs.Words.{trace, asked as asked_by_words};
 ghost use Rattle.ifl_engine.specs.Tracing.{IsReplay};
 ghost use Rattle.ifl_engine.specs.Wanted.{tracing, names_asked, names_or_none, only_trace, work_of, wanted_by};
 ghost use Rattle.ifl_engine.specs.Seen.{seen};
@@ -10,10 +10,11 @@ ghost use Rattle.ifl_engine.specs.CutShort.{IsCutShort};
 ghost use Rattle.ifl_engine.specs.Answer.{ForFiles, IsAnswer, IsStatus, IsCalledFor, IsByWords, Tells};
 
 use crate::reading::read_file;
-use crate::stop::Stop;
+use crate::stop::{Input, Stop};
 use crate::telling::tell;
-use crate::words::{Command, WordFault, read_words};
+use crate::words::asked;
 use ifl_base::{Items, NoMemory};
+use ifl_conf::{Command, WordFault};
 use ifl_outside::{Host, HostError};
 use ifl_ringcore::{ScheduleFault, Trace, read_schedule, replay};
 use std::alloc::Global;
@@ -63,19 +64,17 @@ fn print_replay<H: Host>(alloc: Global, file: &str, bytes: &[u8], host: &mut H) 
         (seen H.faults H.files H.printed host.old) (seen H.faults H.files H.printed host.new) (record { status = result; report = None }) }
 {
     match replay_of(alloc, bytes) {
-        Err(NoMemory) => tell(alloc, "", "", file, Stop::Memory, host),
+        Err(NoMemory) => tell(alloc, file, Stop::Memory, host),
         Ok(Replay { text, status }) => match host.print(alloc, text.as_slice()) {
             Ok(()) => status,
             Err(HostError::Failed) if status == 0 => tell(
                 alloc,
-                "",
-                "",
                 file,
                 Stop::PrintFailed,
                 host,
             ),
             Err(HostError::Failed) => status,
-            Err(HostError::Memory) => tell(alloc, "", "", file, Stop::Memory, host),
+            Err(HostError::Memory) => tell(alloc, file, Stop::Memory, host),
         },
     }
 }
@@ -86,22 +85,22 @@ pub fn trace<H: Host>(alloc: Global, file: &str, host: &mut H) -> u8
     ensures answer { ForFiles (H.files host.old) (λ source. IsAnswer (names_asked (trace file.now)) (work_of (trace file.now) source)
         (seen H.faults H.files H.printed host.old) (seen H.faults H.files H.printed host.new) (record { status = result; report = None })) }
 {
-    match read_file(alloc, file, SCHEDULE_MAX, host) {
+    match read_file(alloc, Input::File, file, SCHEDULE_MAX, host) {
         Ok(bytes) => print_replay(alloc, file, &bytes, host),
-        Err(stop) => tell(alloc, "", "", file, stop, host),
+        Err(stop) => tell(alloc, file, stop, host),
     }
 }
 
 /// The whole call of `run_trace`, with one account of the files for all that is said of it.
 fn answer_trace<H: Host>(alloc: Global, words: &[String], host: &mut H) -> u8
-    ensures by_words { IsByWords (only_trace (asked (map string_bytes words.now))) result }
-    ensures answer { ForFiles (H.files host.old) (λ source. IsAnswer (names_or_none (only_trace (asked (map string_bytes words.now)))) (wanted_by (only_trace (asked (map string_bytes words.now))) source)
+    ensures by_words { IsByWords (only_trace (asked_by_words (map string_bytes words.now))) result }
+    ensures answer { ForFiles (H.files host.old) (λ source. IsAnswer (names_or_none (only_trace (asked_by_words (map string_bytes words.now)))) (wanted_by (only_trace (asked_by_words (map string_bytes words.now))) source)
         (seen H.faults H.files H.printed host.old) (seen H.faults H.files H.printed host.new) (record { status = result; report = None })) }
 {
-    match read_words(alloc, words) {
+    match asked(alloc, words) {
         Ok(Command::Trace { file }) => trace(alloc, file.as_str(), host),
-        Ok(Command::Send(_)) => tell(alloc, "", "", "", Stop::Words(WordFault::Refused), host),
-        Err(fault) => tell(alloc, "", "", "", Stop::Words(fault), host),
+        Ok(_) => tell(alloc, "", Stop::Words(WordFault::Refused), host),
+        Err(fault) => tell(alloc, "", Stop::Words(fault), host),
     }
 }
 
@@ -110,28 +109,28 @@ fn answer_trace<H: Host>(alloc: Global, words: &[String], host: &mut H) -> u8
 /// It answers the exit status. The replay is printed by one call; no file is written.
 pub fn run_trace<H: Host>(alloc: Global, words: &[String], host: &mut H) -> u8
     // Status 1 comes exactly where the words are not those of `trace`.
-    ensures words { IsByWords (only_trace (asked (map string_bytes words.now))) result }
+    ensures words { IsByWords (only_trace (asked_by_words (map string_bytes words.now))) result }
 
     // Each other status is the one that the words and the file call for, or 5 or 6.
-    ensures status { ForFiles (H.files host.old) (λ source. IsStatus (wanted_by (only_trace (asked (map string_bytes words.now))) source) result) }
+    ensures status { ForFiles (H.files host.old) (λ source. IsStatus (wanted_by (only_trace (asked_by_words (map string_bytes words.now))) source) result) }
 
     // Status 5 comes only where the host has failed in this call.
     ensures failed { result ≡ 5 → Rose (H.faults host.old) (H.faults host.new) }
 
     // Where it has not, the status is the one that is called for, or 6.
     ensures complete { ¬ Rose (H.faults host.old) (H.faults host.new) →
-        ForFiles (H.files host.old) (λ source. IsCalledFor (wanted_by (only_trace (asked (map string_bytes words.now))) source) result) }
+        ForFiles (H.files host.old) (λ source. IsCalledFor (wanted_by (only_trace (asked_by_words (map string_bytes words.now))) source) result) }
 
     // No file is written.
     ensures untouched { H.files host.new ≡ H.files host.old }
 
     // A call that was stopped printed the beginning of its replay, if that print failed, and behind it its fault line.
-    ensures stopped { result ≢ 0 → result ≢ 9 → ForFiles (H.files host.old) (λ source. IsCutShort (names_or_none (only_trace (asked (map string_bytes words.now)))) (wanted_by (only_trace (asked (map string_bytes words.now))) source)
+    ensures stopped { result ≢ 0 → result ≢ 9 → ForFiles (H.files host.old) (λ source. IsCutShort (names_or_none (only_trace (asked_by_words (map string_bytes words.now)))) (wanted_by (only_trace (asked_by_words (map string_bytes words.now))) source)
         (seen H.faults H.files H.printed host.old) (seen H.faults H.files H.printed host.new) (record { status = result; report = None })) }
 
     // Where the host has not failed, the replay was printed, or the line of a refusal.
     ensures told { ¬ Rose (H.faults host.old) (H.faults host.new) → result ≢ 6 →
-        ForFiles (H.files host.old) (λ source. Tells (names_or_none (only_trace (asked (map string_bytes words.now)))) (wanted_by (only_trace (asked (map string_bytes words.now))) source) result
+        ForFiles (H.files host.old) (λ source. Tells (names_or_none (only_trace (asked_by_words (map string_bytes words.now)))) (wanted_by (only_trace (asked_by_words (map string_bytes words.now))) source) result
         (H.printed host.old) (H.printed host.new)) }
 {
     answer_trace(alloc, words, host)

@@ -12,8 +12,8 @@ ghost use Rattle.ifl_engine.specs.Steps.{IsHostStop, stop_by};
 use crate::report::Report;
 use crate::stop::Stop;
 use crate::texts::{counter_text, order_text};
-use crate::words::SendWords;
 use ifl_base::NoMemory;
+use ifl_conf::SendWords;
 use ifl_outside::{Host, HostError};
 use std::alloc::Global;
 

@@ -1,6 +1,6 @@
 use Rattle.std.proofs.Common.{ap, map}
 use Rattle.std.specs.String.{string_bytes}
-use Rattle.ifl_engine.specs.declared.words.WordFault.TheVariants as fault
+use Rattle.ifl_conf.specs.declared.word_fault.WordFault.TheVariants as fault
 use Rattle.ifl_engine.specs.Words.{asked}
 use Rattle.ifl_engine.specs.Wanted.{only_trace}
 use Rattle.ifl_engine.specs.Seen.{seen}
