@@ -1,63 +1,108 @@
--- The words of `send` name two files to be written.
-use Rattle.std.proofs.Common.{◌≡◌, ◌≢◌, ℕ, Bool, true, false, cond, ◌||◌, List, Result, Ok, Err, refl, sym, ap, ◌∙◌}
-use Rattle.std.specs.Prelude.{◌==◌, length, codes}
+-- What the words were read as is what they ask for, and the two files that `send` writes have two names.
+use Rattle.std.proofs.Common.{◌≡◌, ◌≢◌, ℕ, Bool, true, false, cond, ◌&&◌, ◌||◌, List, [], ◌∷◌, map, Option, Some, None, Result, Ok, Err, refl, sym, ap, ◌∙◌}
+use Rattle.std.specs.Prelude.{not, option_map, IfOk}
+use Rattle.std.specs.String.{string_bytes}
 use Rattle.std.specs.Str.{bytes_eq}
+use Rattle.std.specs.List.{list_any}
 use Rattle.std.proofs.lemmas.Slice.Eq.{bytes_eq-Decides}
+use Rattle.ifl_conf.specs.declared.command.Command.{Command}
+use Rattle.ifl_conf.specs.declared.command.Command.TheVariants as command
+use Rattle.ifl_conf.specs.declared.command.SendWords.{SendWords}
 use Rattle.ifl_conf.specs.declared.word_fault.WordFault.{WordFault}
 use Rattle.ifl_conf.specs.declared.word_fault.WordFault.TheVariants as fault
-use Rattle.ifl_engine.specs.Words.{Named, Asked, send, trace, asked, asked_send, asked_trace, word, is_command, is_name, is_form, is_named_twice, named}
+use Rattle.ifl_conf.specs.Options.{writes_files, command_named, option_named}
+use Rattle.ifl_conf.specs.Front.{Given, front}
+use Rattle.ifl_conf.specs.FileWords.{files_of}
+use Rattle.ifl_conf.specs.Grammar.{is_of_grammar}
+use Rattle.ifl_conf.specs.Served.{is_form_served}
+use Rattle.ifl_conf.specs.Clashes.{names_clash, is_value, is_read, clashes}
+use Rattle.ifl_conf.specs.Reading.{Reading, no_command, unknown_command, refused, names, asks, reading_of, command_reading, reading}
+use Rattle.ifl_conf.specs.Commands.{ShowsSend, Answers, IsServed}
+use Rattle.ifl_engine.specs.Words.{Named, Asked, send, trace, asked, asked_of, named, or_empty, first_name}
+use Rattle.ifl_engine.specs.Read.{names_of, GivesWords, IsApart}
 
-passed : {A : Type 0} (b : Bool) (e : WordFault) (r : Result A WordFault) (y : A) → cond b r (Err e) ≡ Ok y → (b ≡ true) × (r ≡ Ok y)
-passed true e r y h = (refl, h)
-passed false e r y h = absurd cc
+-- ---- what was read is what is asked for
 
-barred : {A : Type 0} (b : Bool) (e : WordFault) (r : Result A WordFault) (y : A) → cond b (Err e) r ≡ Ok y → (b ≡ false) × (r ≡ Ok y)
-barred true e r y h = absurd cc
-barred false e r y h = (refl, h)
+abbrev files_named : Option (List ℕ) → List ℕ → List ℕ → List ℕ → Named
+files_named settings wire order file = record { settings = settings; wire = wire; order = order; file = file }
 
-abbrev asks : Asked → Result Asked WordFault
-asks c = Ok c
+named_is : (s : SendWords) (gs : List Given) (fs : List (List ℕ)) → ShowsSend s gs fs → named gs fs ≡ names_of s
+unfolding option_named
+named_is s gs fs h =
+    let same : named gs fs ≡ files_named (option_map string_bytes s.settings) (string_bytes s.wire) (string_bytes s.order) (first_name (map string_bytes s.files.items)) = rw (h.settings, h.wire, h.order, h.files) refl in
+    same
 
-same_names : (m n : Named) → asks (send m) ≡ asks (send n) → m ≡ n
-same_names m n h = cc
+abbrev ask_send : Named → Result Asked WordFault
+ask_send n = Ok (send n)
 
-either : (a b : Bool) → (a || b) ≡ false → a ≡ false
-either true b h = absurd cc
-either false b h = refl
+abbrev ask_trace : List (List ℕ) → Result Asked WordFault
+ask_trace fs = Ok (trace (first_name fs))
 
-apart_sent : (words : List (List ℕ)) (n : Named) → asked_send words ≡ Ok (send n) → n.wire ≢ n.order
-apart_sent words n h =
-    let r2 : Result Asked WordFault = cond (is_named_twice words) (Err fault.Names) (Ok (send (named words))) in
-    let r1 : Result Asked WordFault = cond (is_form words) r2 (Err fault.Refused) in
-    let d = passed (length words == 6) fault.Refused r1 (send n) h in
-    let e = passed (is_form words) fault.Refused r2 (send n) d.1 in
-    let f = barred (is_named_twice words) fault.Names (Ok (send (named words))) (send n) e.1 in
-    let is = same_names (named words) n f.1 in
-    let differ : bytes_eq (word words 2) (word words 4) ≡ false = either (bytes_eq (word words 2) (word words 4)) (bytes_eq (word words 2) (word words 5) || bytes_eq (word words 4) (word words 5)) f.0 in
-    λ same.
-    let equal : word words 2 ≡ word words 4 = ap (λ (m : Named). m.wire) is ∙ same ∙ sym (ap (λ (m : Named). m.order) is) in
-    let test : bytes_eq (word words 2) (word words 4) ≡ true = (bytes_eq-Decides (word words 2) (word words 4)).1 equal in
-    absurd cc
+pub gives_of : (result : Result Command WordFault) (r : Reading) → Answers result r → IfOk result IsServed → GivesWords result (asked_of r)
+gives_of (Ok (command.Send s)) r h served = ap asked_of h.3 ∙ ap (λ (d : _). asked_of (asks d h.1 h.2)) h.4.0 ∙ ap ask_send (named_is s h.1 h.2 h.4.1)
+gives_of (Ok (command.Trace file)) r h served = ap asked_of h.3 ∙ ap (λ (d : _). asked_of (asks d h.1 h.2)) h.4.0 ∙ ap ask_trace h.4.1
+gives_of (Ok (command.Gen g)) r h served = served
+gives_of (Ok (command.Check c)) r h served = served
+gives_of (Err fault.NoCommand) r h served = ap asked_of h
+gives_of (Err fault.UnknownCommand) r h served = ap asked_of h
+gives_of (Err fault.Refused) r h served = ap asked_of h
+gives_of (Err fault.Names) r h served = ap asked_of h
+gives_of (Err fault.Memory) r h served = tt
 
-not_sent : (b : Bool) (words : List (List ℕ)) (n : Named) → cond b (asked_trace words) (Err fault.Refused) ≡ Ok (send n) → ⊥
-not_sent true words n h =
-    let r1 : Result Asked WordFault = cond (is_name (word words 1)) (Ok (trace (word words 1))) (Err fault.Refused) in
-    let a = passed (length words == 2) fault.Refused r1 (send n) h in
-    let b = passed (is_name (word words 1)) fault.Refused (Ok (trace (word words 1))) (send n) a.1 in
-    let is : asks (trace (word words 1)) ≡ asks (send n) = b.1 in
-    absurd cc
-not_sent false words n h = absurd cc
-
-sent : (b : Bool) (words : List (List ℕ)) (n : Named) → cond b (asked_send words) (cond (bytes_eq (word words 0) (codes "trace")) (asked_trace words) (Err fault.Refused)) ≡ Ok (send n) → asked_send words ≡ Ok (send n)
-sent true words n h = h
-sent false words n h = absurd (not_sent (bytes_eq (word words 0) (codes "trace")) words n h)
-
--- the wire file and the order file are two
-pub apart : (words : List (List ℕ)) (n : Named) → asked words ≡ Ok (send n) → n.wire ≢ n.order
+pub gives : (words : List (List ℕ)) (result : Result Command WordFault) → Answers result (reading words) → IfOk result IsServed → GivesWords result (asked words)
 unfolding asked
-apart words n h =
-    let r2 : Result Asked WordFault = cond (bytes_eq (word words 0) (codes "send")) (asked_send words) (cond (bytes_eq (word words 0) (codes "trace")) (asked_trace words) (Err fault.Refused)) in
-    let r1 : Result Asked WordFault = cond (is_command (word words 0)) r2 (Err fault.UnknownCommand) in
-    let a = barred (length words == 0) fault.NoCommand r1 (send n) h in
-    let b = passed (is_command (word words 0)) fault.UnknownCommand r2 (send n) a.1 in
-    apart_sent words n (sent (bytes_eq (word words 0) (codes "send")) words n b.1)
+gives words result h served = gives_of result (reading words) h served
+
+-- ---- words that ask for something have no names that clash
+
+abbrev clashing : Reading → Bool
+clashing no_command = false
+clashing unknown_command = false
+clashing refused = false
+clashing names = false
+clashing (asks c gs fs) = writes_files c && names_clash gs fs
+
+by_tests : (unfit clash : Bool) (c : _) (gs : List Given) (fs : List (List ℕ)) → (writes_files c && names_clash gs fs) ≡ clash → clashing (cond unfit refused (cond clash names (asks c gs fs))) ≡ false
+by_tests true clash c gs fs is = refl
+by_tests false true c gs fs is = refl
+by_tests false false c gs fs is = is
+
+by_files : (c : _) (gs : List Given) (files : Option (List (List ℕ))) → clashing (reading_of c gs files) ≡ false
+by_files c gs None = refl
+by_files c gs (Some fs) = by_tests (not (is_of_grammar c gs fs && is_form_served c gs fs)) (writes_files c && names_clash gs fs) c gs fs refl
+
+by_command : (ws : List (List ℕ)) (c : Option _) → clashing (command_reading ws c) ≡ false
+by_command ws None = refl
+by_command ws (Some c) = by_files c (front c ws).0 (files_of (front c ws).1)
+
+clashing-reading : (words : List (List ℕ)) → clashing (reading words) ≡ false
+clashing-reading [] = refl
+clashing-reading (w ∷ ws) = by_command ws (command_named w)
+
+-- ---- so the two names of `send` are two
+
+neither : (a b : Bool) → (a || b) ≡ false → a ≡ false
+neither true b h = absurd cc
+neither false b h = refl
+
+differ : (w o : List ℕ) → bytes_eq w o ≡ false → w ≢ o
+differ w o h = λ same. let test : bytes_eq w o ≡ true = (bytes_eq-Decides w o).1 same in absurd cc
+
+clash_first : (wire order host : Option (List ℕ)) (gs : List Given) (fs : List (List ℕ)) (later : Bool) (w o : List ℕ) → wire ≡ Some w → order ≡ Some o → (clashes wire (order ∷ host ∷ []) gs fs || later) ≡ false → bytes_eq w o ≡ false
+clash_first wire order host gs fs later w o is_w is_o h =
+    let tests : ((bytes_eq w o || list_any (is_value w) (host ∷ [])) || is_read w gs fs) || later ≡ false = rw (is_w, is_o) at h in
+    neither (bytes_eq w o) (list_any (is_value w) (host ∷ [])) (neither (bytes_eq w o || list_any (is_value w) (host ∷ [])) (is_read w gs fs) (neither _ later tests))
+
+apart_of : (s : SendWords) (words : List (List ℕ)) (c : _) (gs : List Given) (fs : List (List ℕ)) → reading words ≡ asks c gs fs → (writes_files c ≡ true) → ShowsSend s gs fs → string_bytes s.wire ≢ string_bytes s.order
+unfolding names_clash
+apart_of s words c gs fs is writes h =
+    let clash : (writes_files c && names_clash gs fs) ≡ false = ap clashing (sym is) ∙ clashing-reading words in
+    let tests : names_clash gs fs ≡ false = rw writes at clash in
+    differ (string_bytes s.wire) (string_bytes s.order) (clash_first _ _ _ gs fs _ (string_bytes s.wire) (string_bytes s.order) h.wire h.order tests)
+
+pub apart : (words : List (List ℕ)) (result : Result Command WordFault) → Answers result (reading words) → IfOk result IsApart
+apart words (Ok (command.Send s)) h = apart_of s words h.0 h.1 h.2 h.3 (ap writes_files h.4.0) h.4.1
+apart words (Ok (command.Trace file)) h = tt
+apart words (Ok (command.Gen g)) h = tt
+apart words (Ok (command.Check c)) h = tt
+apart words (Err e) h = tt

@@ -25,9 +25,10 @@ begins_print why Ending text a b of is h = told_map a b _ (Begins why Ending) (�
 -- a stop of the host has status 5 and is a fault, or it has status 6
 host_status : (why : Stop) (a b : ℕ) → IsHostStop why a b → ((status_of why ≡ 5) × Rose a b) ⊎ (status_of why ≡ 6)
 host_status (stop.Words f) a b h = absurd h
-host_status stop.ReadFailed a b h = absurd h
-host_status stop.Absent a b h = absurd h
-host_status stop.TooLong a b h = absurd h
+host_status (stop.ReadFailed which) a b h = absurd h
+host_status (stop.Absent which) a b h = absurd h
+host_status (stop.TooLong which) a b h = absurd h
+host_status (stop.Settings e) a b h = absurd h
 host_status (stop.Capture at why) a b h = absurd h
 host_status stop.WireFailed a b h = inl (refl, h)
 host_status stop.OrderFailed a b h = inl (refl, h)
@@ -35,10 +36,10 @@ host_status stop.PrintFailed a b h = inl (refl, h)
 host_status stop.Memory a b h = inr refl
 
 -- the answer after a stop of writing
-pub write_stopped : (names : Named) (captures : List (List Frame)) (r : Report) (why : Stop) (before mid after : Seen) (status : ℕ) → IsGood captures r → IsHostStop why before.faults mid.faults → before.faults ≤ mid.faults
+pub write_stopped : (names : Named) (max_frame : ℕ) (captures : List (List Frame)) (r : Report) (why : Stop) (before mid after : Seen) (status : ℕ) → IsGood max_frame captures r → IsHostStop why before.faults mid.faults → before.faults ≤ mid.faults
     → BothTold before.files mid.files (IsLeft names r why) → BothTold before.files mid.files (IsStanding names r) → BothTold before.printed mid.printed (Begins why (λ text. text ≡ counter_text_of r.plain))
-    → IsTold names why mid after status → IsAnswer names (Ok (sending names captures)) before after (record { status = status; report = Some r })
-write_stopped names captures r why before mid after status good fault later left standing begun told =
+    → IsTold names why mid after status → IsAnswer names (Ok (sending names max_frame captures)) before after (record { status = status; report = Some r })
+write_stopped names max_frame captures r why before mid after status good fault later left standing begun told =
     let cause = host_status why before.faults mid.faults fault in
     let s : (status ≡ 5) ⊎ (status ≡ 6) = elim (told.status) [ inl e ↦ elim cause [ inl five ↦ inl (e ∙ five.0) | inr six ↦ inr (e ∙ six) ] | inr e ↦ inr e ] in
     let rose : status_of why ≡ 5 → Rose before.faults mid.faults = λ five. elim cause [ inl c ↦ c.1 | inr six ↦ absurd (omega (arith, five, six)) ] in
@@ -52,5 +53,5 @@ write_stopped names captures r why before mid after status good fault later left
       left = rw told.files standing;
       untouched = λ none. absurd cc;
       told = λ b c. elim s [ inl five ↦ absurd (b five) | inr six ↦ absurd (c six) ];
-      stopped = λ bad legal. cut_short names (Ok (sending names captures)) (Some r) why before mid after status tt left begun rose told;
+      stopped = λ bad legal. cut_short names (Ok (sending names max_frame captures)) (Some r) why before mid after status tt left begun rose told;
     }

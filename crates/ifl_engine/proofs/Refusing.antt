@@ -1,5 +1,5 @@
 -- Words that are refused, and the status that they give.
-use Rattle.std.proofs.Common.{◌≡◌, ◌≢◌, ℕ, ◌<◌, [], None, Result, Ok, Err, refl, sym, ap, subst, arith, inl, inr}
+use Rattle.std.proofs.Common.{◌≡◌, ◌≢◌, ℕ, ◌<◌, [], None, Result, Ok, Err, refl, sym, ap, subst, ◌∙◌, arith, inl, inr}
 use Rattle.ifl_engine.specs.declared.report.Finished.{Finished}
 use Rattle.ifl_conf.specs.declared.word_fault.WordFault.{WordFault}
 use Rattle.ifl_conf.specs.declared.word_fault.WordFault.TheVariants as fault
@@ -13,10 +13,10 @@ use Rattle.ifl_engine.specs.CutShort.{IsEnding}
 use Rattle.ifl_engine.specs.Answer.{IsByWords, IsAnswer}
 use Rattle.ifl_engine.specs.Steps.{IsRead, IsTold}
 use Rattle.ifl_engine.proofs.CutShort.{begins_empty}
-use Rattle.ifl_engine.proofs.Stopping.{stopped, gave_up}
+use Rattle.ifl_engine.proofs.Stopping.{stopped, gave_up, setting_other}
 
 abbrev none : Named
-none = record { wire = []; order = []; file = [] }
+none = record { settings = None; wire = []; order = []; file = [] }
 
 refused_as : (r : Result Asked WordFault) (source : Source) (f : WordFault) (before after : Seen) (status : ℕ) → r ≡ Err f → 0 < status_of (stop.Words f) → status_of (stop.Words f) ≢ 5 → IsTold none (stop.Words f) before after status
     → IsAnswer (names_or_none r) (wanted_by r source) before after (record { status = status; report = None })
@@ -44,10 +44,11 @@ answered r command source before after result is h =
 -- a stop of reading is none of the words
 pub not_by_words : {X Y : Type 0} (view : X → Y) (names : Named) (why : Stop) (read : Result Y Stop) (before after : Seen) (status : ℕ) → IsRead view (Err why) read → IsTold names why before after status → status ≢ 1
 not_by_words view names (stop.Words f) read before after status r told = absurd r
-not_by_words view names stop.ReadFailed read before after status r told = λ one. elim (told.status) [ inl e ↦ absurd (omega (arith, e, one)) | inr e ↦ absurd (omega (arith, e, one)) ]
+not_by_words view names (stop.ReadFailed which) read before after status r told = λ one. elim (told.status) [ inl e ↦ absurd (omega (arith, e, one)) | inr e ↦ absurd (omega (arith, e, one)) ]
 not_by_words view names stop.Memory read before after status r told = λ one. elim (told.status) [ inl e ↦ absurd (omega (arith, e, one)) | inr e ↦ absurd (omega (arith, e, one)) ]
-not_by_words view names stop.Absent read before after status r told = λ one. elim (told.status) [ inl e ↦ absurd (omega (arith, e, one)) | inr e ↦ absurd (omega (arith, e, one)) ]
-not_by_words view names stop.TooLong read before after status r told = λ one. elim (told.status) [ inl e ↦ absurd (omega (arith, e, one)) | inr e ↦ absurd (omega (arith, e, one)) ]
+not_by_words view names (stop.Absent which) read before after status r told = λ one. elim (told.status) [ inl e ↦ absurd (omega (arith, e, one)) | inr e ↦ absurd (omega (arith, e, one)) ]
+not_by_words view names (stop.TooLong which) read before after status r told = λ one. elim (told.status) [ inl e ↦ absurd (omega (arith, e, one)) | inr e ↦ absurd (omega (arith, e, one)) ]
+not_by_words view names (stop.Settings f) read before after status r told = λ one. elim (told.status) [ inl e ↦ setting_other f 1 (λ b. absurd cc) (λ b. absurd cc) (sym e ∙ one) | inr e ↦ absurd (omega (arith, e, one)) ]
 not_by_words view names (stop.Capture at what) read before after status r told = λ one. elim (told.status) [ inl e ↦ absurd (omega (arith, e, one)) | inr e ↦ absurd (omega (arith, e, one)) ]
 not_by_words view names stop.WireFailed read before after status r told = absurd r
 not_by_words view names stop.OrderFailed read before after status r told = absurd r

@@ -1,12 +1,12 @@
 -- What a call does to its host is what it does from an earlier moment on, if the host was only read since.
-use Rattle.std.proofs.Common.{◌≡◌, ℕ, ◌≤◌, List, [], ◌∷◌, Option, Some, None, Result, Ok, sym, ap, subst, ◌∙◌, arith, inl, inr}
+use Rattle.std.proofs.Common.{◌≡◌, ℕ, ◌≤◌, List, Option, Some, None, Result, Ok, sym, ap, subst, ◌∙◌, arith, inl, inr}
 use Rattle.std.specs.Prelude.{IfSome}
-use Rattle.ifl_pcap.specs.declared.frame.Frame.{Frame}
+use Rattle.ifl_engine.specs.declared.stop.Input.TheVariants as input
 use Rattle.ifl_engine.specs.declared.report.Report.{Report}
 use Rattle.ifl_engine.specs.declared.report.Finished.{Finished}
 use Rattle.ifl_engine.specs.declared.stop.Stop.{Stop}
 use Rattle.ifl_engine.specs.Words.{Named, send, trace}
-use Rattle.ifl_engine.specs.Wanted.{Source, Work, sending, tracing, file_at, read_of, work_of, names_asked}
+use Rattle.ifl_engine.specs.Wanted.{Source, Load, Work, sending, tracing, file_at, read_of, work_of, names_asked}
 use Rattle.ifl_engine.specs.Seen.{Seen}
 use Rattle.ifl_engine.specs.Answer.{IsDone, Tells, IsAnswer}
 use Rattle.ifl_engine.proofs.CutShort.{moved}
@@ -34,14 +34,14 @@ since names w before mid after result files printed later h = record {
 }
 
 -- `send` answers what the run over its capture does
-pub send_read : (names : Named) (source : Source) (frames : List Frame) (before mid after : Seen) (result : Finished) → read_of names source ≡ Ok (frames ∷ []) → mid.files ≡ before.files → mid.printed ≡ before.printed → before.faults ≤ mid.faults
-    → IsAnswer names (Ok (sending names (frames ∷ []))) mid after result → IsAnswer names (work_of (send names) source) before after result
-send_read names source frames before mid after result is files printed later h =
-    let w : work_of (send names) source ≡ Ok (sending names (frames ∷ [])) = ap (as_work names) is in
-    subst (λ (v : Result Work Stop). IsAnswer names v before after result) (sym w) (since names (Ok (sending names (frames ∷ []))) before mid after result files printed later h)
+pub send_read : (names : Named) (source : Source) (load : Load) (before mid after : Seen) (result : Finished) → read_of names source ≡ Ok load → mid.files ≡ before.files → mid.printed ≡ before.printed → before.faults ≤ mid.faults
+    → IsAnswer names (Ok (sending names load.max_frame load.captures)) mid after result → IsAnswer names (work_of (send names) source) before after result
+send_read names source load before mid after result is files printed later h =
+    let w : work_of (send names) source ≡ Ok (sending names load.max_frame load.captures) = ap (as_work names) is in
+    subst (λ (v : Result Work Stop). IsAnswer names v before after result) (sym w) (since names (Ok (sending names load.max_frame load.captures)) before mid after result files printed later h)
 
 -- `trace` answers what the replay of its schedule does
-pub trace_read : (file : List ℕ) (source : Source) (bytes : List ℕ) (before mid after : Seen) (result : Finished) → file_at 1048576 (source 0 file) ≡ Ok bytes → mid.files ≡ before.files → mid.printed ≡ before.printed → before.faults ≤ mid.faults
+pub trace_read : (file : List ℕ) (source : Source) (bytes : List ℕ) (before mid after : Seen) (result : Finished) → file_at input.File 1048576 (source input.File file) ≡ Ok bytes → mid.files ≡ before.files → mid.printed ≡ before.printed → before.faults ≤ mid.faults
     → IsAnswer (names_asked (trace file)) (Ok (tracing bytes)) mid after result → IsAnswer (names_asked (trace file)) (work_of (trace file) source) before after result
 trace_read file source bytes before mid after result is files printed later h =
     let w : work_of (trace file) source ≡ Ok (tracing bytes) = ap as_replay is in

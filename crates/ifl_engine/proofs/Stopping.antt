@@ -2,16 +2,18 @@
 use Rattle.std.proofs.Common.{◌≡◌, ◌≢◌, ℕ, ◌<◌, ◌≤◌, ◌⊎◌, List, ◌++◌, Option, None, Result, Ok, Err, refl, sym, ap, subst, ◌∙◌, arith, inl, inr}
 use Rattle.ifl_outside.specs.Told.{BothTold}
 use Rattle.ifl_outside.specs.Causes.{Rose}
-use Rattle.ifl_pcap.specs.declared.frame.Frame.{Frame}
+use Rattle.ifl_conf.specs.declared.setting_fault.SettingFault.{SettingFault}
+use Rattle.ifl_conf.specs.declared.setting_fault.SettingFault.TheVariants as setting
 use Rattle.ifl_engine.specs.declared.stop.Stop.{Stop}
 use Rattle.ifl_engine.specs.declared.stop.Stop.TheVariants as stop
+use Rattle.ifl_engine.specs.declared.stop.Input.TheVariants as input
 use Rattle.ifl_engine.specs.Words.{Named, send, trace}
-use Rattle.ifl_engine.specs.Wanted.{Source, Work, sending, tracing, ◌>>=◌, file_at, read_of, work_of, status_of, line_of, names_asked}
+use Rattle.ifl_engine.specs.Wanted.{Source, Load, Work, sending, tracing, ◌>>=◌, file_at, read_of, work_of, status_of, line_of, names_asked}
 use Rattle.ifl_engine.specs.Seen.{Seen}
 use Rattle.ifl_engine.specs.Answer.{CallsFor, IsStatus, Tells, IsAnswer}
-use Rattle.ifl_engine.specs.Steps.{IsRead, IsTold}
+use Rattle.ifl_engine.specs.Steps.{IsRead, IsReadFailure, IsTold}
 use Rattle.ifl_engine.specs.CutShort.{IsEnding, IsStopOf}
-use Rattle.ifl_engine.proofs.ReadLaws.{bytes_of, frames_in}
+use Rattle.ifl_engine.proofs.ReadLaws.{bytes_of}
 use Rattle.ifl_engine.proofs.CutShort.{Begins, begins_empty, cut_short}
 
 pub risen : (a b c : ℕ) → Rose a b → b ≤ c → Rose a c
@@ -27,9 +29,10 @@ free w status h = inr h
 -- a stop that is none of the host comes before all writes
 early : (w : Result Work Stop) (why : Stop) → status_of why ≢ 5 → IsStopOf w None why
 early w (stop.Words f) other = tt
-early w stop.ReadFailed other = tt
-early w stop.Absent other = tt
-early w stop.TooLong other = tt
+early w (stop.ReadFailed which) other = tt
+early w (stop.Absent which) other = tt
+early w (stop.TooLong which) other = tt
+early w (stop.Settings e) other = tt
 early w (stop.Capture at why) other = tt
 early w stop.WireFailed other = absurd (other refl)
 early w stop.OrderFailed other = absurd (other refl)
@@ -76,37 +79,45 @@ gave_up names w why before mid after status which here rose files begun later to
       stopped = λ bad legal. cut_short names w None why before mid after status here tt begun rose told;
     }
 
-abbrev pub as_work : Named → Result (List (List Frame)) Stop → Result Work Stop
-as_work names read = read >>= λ captures. Ok (sending names captures)
+abbrev pub as_work : Named → Result Load Stop → Result Work Stop
+as_work names read = read >>= λ load. Ok (sending names load.max_frame load.captures)
 
-abbrev not_read : (T : Type 0) → Stop → Result T Stop
-not_read T why = Err why
+-- a fault of the settings has a status of its own, or that of memory
+setting_status : (e : SettingFault) → (status_of (stop.Settings e) ≡ 2) ⊎ (status_of (stop.Settings e) ≡ 6)
+setting_status setting.Text = inl refl
+setting_status setting.Unknown = inl refl
+setting_status (setting.Key k) = inl refl
+setting_status setting.Memory = inr refl
 
-pub same_stop : (T : Type 0) (a b : Stop) → a ≡ b → not_read T a ≡ not_read T b
-same_stop T a b e = ap (not_read T) e
+setting_above : (e : SettingFault) → 0 < status_of (stop.Settings e)
+setting_above e = elim (setting_status e) [ inl two ↦ omega (arith, two) | inr six ↦ omega (arith, six) ]
+
+pub setting_other : (e : SettingFault) (n : ℕ) → n ≢ 2 → n ≢ 6 → status_of (stop.Settings e) ≢ n
+setting_other e n a b is = elim (setting_status e) [ inl two ↦ a (sym is ∙ two) | inr six ↦ b (sym is ∙ six) ]
 
 -- a file that could not be read stops what stands behind it
 pub read_stopped : {X Y : Type 0} (view : X → Y) (names : Named) (w : Result Y Stop → Result Work Stop) (why : Stop) (read : Result Y Stop) (before mid after : Seen) (status : ℕ) → ((e : Stop) → w (Err e) ≡ Err e) → IsRead view (Err why) read → mid.files ≡ before.files → mid.printed ≡ before.printed → before.faults ≤ mid.faults
-    → (why ≡ stop.ReadFailed → Rose before.faults mid.faults) → IsTold names why mid after status → IsAnswer names (w read) before after (record { status = status; report = None })
+    → (IsReadFailure why → Rose before.faults mid.faults) → IsTold names why mid after status → IsAnswer names (w read) before after (record { status = status; report = None })
 read_stopped view names w (stop.Words f) read before mid after status passes is files printed later rose told = absurd is
-read_stopped view names w stop.ReadFailed read before mid after status passes is files printed later rose told = gave_up names (w read) stop.ReadFailed before mid after status (inl refl) tt (λ five. rose refl) files (begins_empty stop.ReadFailed (IsEnding (w read) None) before.printed mid.printed printed) later told
+read_stopped view names w (stop.ReadFailed which) read before mid after status passes is files printed later rose told = gave_up names (w read) (stop.ReadFailed which) before mid after status (inl refl) tt (λ five. rose tt) files (begins_empty (stop.ReadFailed which) (IsEnding (w read) None) before.printed mid.printed printed) later told
 read_stopped view names w stop.Memory read before mid after status passes is files printed later rose told = gave_up names (w read) stop.Memory before mid after status (inr refl) tt (λ five. absurd (omega (arith, five))) files (begins_empty stop.Memory (IsEnding (w read) None) before.printed mid.printed printed) later told
-read_stopped view names w stop.Absent read before mid after status passes is files printed later rose told = stopped names (w read) stop.Absent before mid after status (ap w is ∙ passes stop.Absent) (omega arith) (λ e. absurd (omega (arith, e))) files printed later told
-read_stopped view names w stop.TooLong read before mid after status passes is files printed later rose told = stopped names (w read) stop.TooLong before mid after status (ap w is ∙ passes stop.TooLong) (omega arith) (λ e. absurd (omega (arith, e))) files printed later told
+read_stopped view names w (stop.Absent which) read before mid after status passes is files printed later rose told = stopped names (w read) (stop.Absent which) before mid after status (ap w is ∙ passes (stop.Absent which)) (omega arith) (λ e. absurd (omega (arith, e))) files printed later told
+read_stopped view names w (stop.TooLong which) read before mid after status passes is files printed later rose told = stopped names (w read) (stop.TooLong which) before mid after status (ap w is ∙ passes (stop.TooLong which)) (omega arith) (λ e. absurd (omega (arith, e))) files printed later told
+read_stopped view names w (stop.Settings e) read before mid after status passes is files printed later rose told = stopped names (w read) (stop.Settings e) before mid after status (ap w is ∙ passes (stop.Settings e)) (setting_above e) (setting_other e 5 (λ b. absurd cc) (λ b. absurd cc)) files printed later told
 read_stopped view names w (stop.Capture at what) read before mid after status passes is files printed later rose told = stopped names (w read) (stop.Capture at what) before mid after status (ap w is ∙ passes (stop.Capture at what)) (omega arith) (λ e. absurd (omega (arith, e))) files printed later told
 read_stopped view names w stop.WireFailed read before mid after status passes is files printed later rose told = absurd is
 read_stopped view names w stop.OrderFailed read before mid after status passes is files printed later rose told = absurd is
 read_stopped view names w stop.PrintFailed read before mid after status passes is files printed later rose told = absurd is
 
 -- `send` stopped where its capture was to be read
-pub send_stopped : (names : Named) (why : Stop) (source : Source) (before mid after : Seen) (status : ℕ) → IsRead frames_in (Err why) (read_of names source) → mid.files ≡ before.files → mid.printed ≡ before.printed → before.faults ≤ mid.faults
-    → (why ≡ stop.ReadFailed → Rose before.faults mid.faults) → IsTold names why mid after status → IsAnswer names (work_of (send names) source) before after (record { status = status; report = None })
-send_stopped names why source before mid after status read files printed later rose told = read_stopped frames_in names (as_work names) why (read_of names source) before mid after status (λ e. refl) read files printed later rose told
+pub send_stopped : {X : Type 0} (view : X → Load) (names : Named) (why : Stop) (source : Source) (before mid after : Seen) (status : ℕ) → IsRead view (Err why) (read_of names source) → mid.files ≡ before.files → mid.printed ≡ before.printed → before.faults ≤ mid.faults
+    → (IsReadFailure why → Rose before.faults mid.faults) → IsTold names why mid after status → IsAnswer names (work_of (send names) source) before after (record { status = status; report = None })
+send_stopped view names why source before mid after status read files printed later rose told = read_stopped view names (as_work names) why (read_of names source) before mid after status (λ e. refl) read files printed later rose told
 
 abbrev pub as_replay : Result (List ℕ) Stop → Result Work Stop
 as_replay read = read >>= λ bytes. Ok (tracing bytes)
 
 -- `trace` stopped where its schedule was to be read
-pub trace_stopped : (file : List ℕ) (why : Stop) (source : Source) (before mid after : Seen) (status : ℕ) → IsRead bytes_of (Err why) (file_at 1048576 (source 0 file)) → mid.files ≡ before.files → mid.printed ≡ before.printed → before.faults ≤ mid.faults
-    → (why ≡ stop.ReadFailed → Rose before.faults mid.faults) → IsTold (names_asked (trace file)) why mid after status → IsAnswer (names_asked (trace file)) (work_of (trace file) source) before after (record { status = status; report = None })
-trace_stopped file why source before mid after status read files printed later rose told = read_stopped bytes_of (names_asked (trace file)) as_replay why (file_at 1048576 (source 0 file)) before mid after status (λ e. refl) read files printed later rose told
+pub trace_stopped : (file : List ℕ) (why : Stop) (source : Source) (before mid after : Seen) (status : ℕ) → IsRead bytes_of (Err why) (file_at input.File 1048576 (source input.File file)) → mid.files ≡ before.files → mid.printed ≡ before.printed → before.faults ≤ mid.faults
+    → (IsReadFailure why → Rose before.faults mid.faults) → IsTold (names_asked (trace file)) why mid after status → IsAnswer (names_asked (trace file)) (work_of (trace file) source) before after (record { status = status; report = None })
+trace_stopped file why source before mid after status read files printed later rose told = read_stopped bytes_of (names_asked (trace file)) as_replay why (file_at input.File 1048576 (source input.File file)) before mid after status (λ e. refl) read files printed later rose told

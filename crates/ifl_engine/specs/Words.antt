@@ -1,10 +1,9 @@
 -- What the words of the command line ask the engine for: to send a capture's frames, or to replay a schedule.
-use Rattle.std.specs.Prelude.{ℕ, List, [], ◌∷◌, Option, None, Some, Result, Ok, Err}
+use Rattle.std.specs.Prelude.{ℕ, List, [], ◌∷◌, Option, None, Some, option_and_then, Result, Ok, Err, if◌then◌else◌, codes}
+use Rattle.std.specs.Str.{bytes_eq}
 use Rattle.ifl_conf.specs.declared.word_fault.WordFault.{WordFault}
 use Rattle.ifl_conf.specs.declared.word_fault.WordFault.TheVariants.{NoCommand, UnknownCommand, Refused, Names}
-use Rattle.ifl_conf.specs.declared.words.CommandName.{CommandName}
-use Rattle.ifl_conf.specs.declared.words.CommandName.TheVariants.{Send, Gen, Trace, Check}
-use Rattle.ifl_conf.specs.declared.words.OptionName.TheVariants.{Wire, Order, SettingsFile}
+use Rattle.ifl_conf.specs.Options.{command_text, option_named}
 use Rattle.ifl_conf.specs.Front.{Given}
 use Rattle.ifl_conf.specs.Grammar.{value_of}
 use Rattle.ifl_conf.specs.Reading.{Reading, no_command, unknown_command, refused, names, asks, reading}
@@ -31,21 +30,23 @@ abbrev pub first_name : List (List ℕ) → List ℕ
 first_name [] = []
 first_name (name ∷ others) = name
 
+-- the value of the option that is written so
+abbrev pub value_under : List ℕ → List Given → Option (List ℕ)
+value_under text gs = option_and_then (λ o. value_of o gs) (option_named text)
+
 -- the files that the options and the FILE words of `send` name
 abbrev pub named : List Given → List (List ℕ) → Named
 named gs fs = record {
-  settings = value_of SettingsFile gs;
-  wire = or_empty (value_of Wire gs);
-  order = or_empty (value_of Order gs);
+  settings = value_under (codes "--settings") gs;
+  wire = or_empty (value_under (codes "--wire") gs);
+  order = or_empty (value_under (codes "--order") gs);
   file = first_name fs;
 }
 
--- what a command asks for with these options and FILE words
-abbrev pub asked_by : CommandName → List Given → List (List ℕ) → Result Asked WordFault
-asked_by Send gs fs = Ok (send (named gs fs))
-asked_by Gen gs fs = Err Refused
-asked_by Trace gs fs = Ok (trace (first_name fs))
-asked_by Check gs fs = Err Refused
+-- what the command that is written so asks for with these options and FILE words
+abbrev pub asked_by : List ℕ → List Given → List (List ℕ) → Result Asked WordFault
+asked_by text gs fs =
+    if bytes_eq text (codes "send") then Ok (send (named gs fs)) else if bytes_eq text (codes "trace") then Ok (trace (first_name fs)) else Err Refused
 
 -- what words that are read so ask for, or their first fault
 abbrev pub asked_of : Reading → Result Asked WordFault
@@ -53,7 +54,7 @@ asked_of no_command = Err NoCommand
 asked_of unknown_command = Err UnknownCommand
 asked_of refused = Err Refused
 asked_of names = Err Names
-asked_of (asks c gs fs) = asked_by c gs fs
+asked_of (asks c gs fs) = asked_by (command_text c) gs fs
 
 -- what all words ask for, or their first fault
 unfoldable pub asked : List (List ℕ) → Result Asked WordFault

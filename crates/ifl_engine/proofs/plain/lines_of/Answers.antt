@@ -7,12 +7,12 @@ use Rattle.ifl_engine.proofs.plain.lines_of.Goals as goal
 
 pub loop-k-preserved : goal.loop-k-preserved
 loop-k-preserved c = record {
-  order = numbered order_part c.args.frames.now c.loop-k.k c.index-frames-k.result c.loop-k.order c.put_line.new.order c.loop-k-test.true c.index-frames-k.is c.loop-k.invariant.order c.in_ok-put_line.ensures.order;
-  away = numbered away_part c.args.frames.now c.loop-k.k c.index-frames-k.result c.loop-k.away c.put_line.new.away c.loop-k-test.true c.index-frames-k.is c.loop-k.invariant.away c.in_ok-put_line.ensures.away;
+  order = numbered (order_part c.args.max_frame) c.args.frames.now c.loop-k.k c.index-frames-k.result c.loop-k.order c.put_line.new.order c.loop-k-test.true c.index-frames-k.is c.loop-k.invariant.order c.in_ok-put_line.ensures.order;
+  away = numbered (away_part c.args.max_frame) c.args.frames.now c.loop-k.k c.index-frames-k.result c.loop-k.away c.put_line.new.away c.loop-k-test.true c.index-frames-k.is c.loop-k.invariant.away c.in_ok-put_line.ensures.away;
 }
 
 pub returns : goal.returns
 returns c = (
-  c.loop-k.invariant.order ∙ whole order_part (enumerate_from 0 c.args.frames.now) c.loop-k.k (omega (arith, length-enumerate_from 0 c.args.frames.now)),
-  c.loop-k.invariant.away ∙ whole away_part (enumerate_from 0 c.args.frames.now) c.loop-k.k (omega (arith, length-enumerate_from 0 c.args.frames.now)),
+  c.loop-k.invariant.order ∙ whole (order_part c.args.max_frame) (enumerate_from 0 c.args.frames.now) c.loop-k.k (omega (arith, length-enumerate_from 0 c.args.frames.now)),
+  c.loop-k.invariant.away ∙ whole (away_part c.args.max_frame) (enumerate_from 0 c.args.frames.now) c.loop-k.k (omega (arith, length-enumerate_from 0 c.args.frames.now)),
 )

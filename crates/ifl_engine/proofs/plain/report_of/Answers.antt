@@ -10,14 +10,14 @@ use Rattle.ifl_engine.proofs.Lines.{fits_kept}
 use Rattle.ifl_engine.proofs.plain.report_of.Goals as goal
 
 pub wire_of-requires : goal.wire_of-requires
-wire_of-requires c = rw (c.kept.ensures, c.into_vec.ensures) (fits_kept is_fit c.args.capture.frames c.requires.fit)
+wire_of-requires c = rw (c.kept.ensures, c.into_vec.ensures) (fits_kept (is_fit c.args.max_frame) c.args.capture.frames c.requires.fit)
 
 pub returns : goal.returns
 returns c =
-    let kept : c.kept.result.items ≡ filter is_fit c.args.capture.frames = c.kept.ensures ∙ ap (filter is_fit) c.into_vec.ensures in
-    good c.args.capture.frames _
-    (c.in_ok-order.ensures.0 ∙ ap order_of c.as_slice.ensures)
-    (c.in_ok-order.ensures.1 ∙ ap away_of c.as_slice.ensures)
+    let kept : c.kept.result.items ≡ filter (is_fit c.args.max_frame) c.args.capture.frames = c.kept.ensures ∙ ap (filter (is_fit c.args.max_frame)) c.into_vec.ensures in
+    good c.args.max_frame c.args.capture.frames _
+    (c.in_ok-order.ensures.0 ∙ ap (order_of c.args.max_frame) c.as_slice.ensures)
+    (c.in_ok-order.ensures.1 ∙ ap (away_of c.args.max_frame) c.as_slice.ensures)
     (c.from_vec.ensures ∙ c.in_ok-wire.ensures.0 ∙ ap written kept)
     c.len-count.ensures
     c.len.ensures

@@ -1,9 +1,9 @@
-use Rattle.ifl_engine.specs.declared.stop.Stop.TheVariants.{ReadFailed}
 use Rattle.ifl_engine.specs.Read.{names_of}
 use Rattle.ifl_engine.specs.Wanted.{read_of}
+use Rattle.ifl_engine.specs.Loaded.{load_seen}
 use Rattle.ifl_engine.specs.Seen.{seen}
-use Rattle.ifl_engine.proofs.ReadLaws.{for_each, from_files, frames_in}
-use Rattle.ifl_engine.proofs.Stopping.{send_stopped, same_stop}
+use Rattle.ifl_engine.proofs.ReadLaws.{for_each, from_files}
+use Rattle.ifl_engine.proofs.Stopping.{send_stopped}
 use Rattle.ifl_engine.proofs.Since.{send_read}
 use Rattle.ifl_engine.proofs.Refusing.{not_by_words}
 use Rattle.ifl_engine.proofs.top.send.Goals as goal
@@ -11,7 +11,7 @@ use Rattle.ifl_engine.proofs.top.send.Goals as goal
 pub returns-in-Ok-clause-answer : goal.returns-in-Ok-clause-answer
 returns-in-Ok-clause-answer g c =
     for_each (g.H.Host.files c.args.host.now) _ _
-    (λ source read. send_read (names_of c.args.names.now) source c.in-Ok.capture.frames
+    (λ source read. send_read (names_of c.args.names.now) source (load_seen c.in-Ok.load)
     (seen g.H.Host.faults g.H.Host.files g.H.Host.printed c.args.host.now)
     (seen g.H.Host.faults g.H.Host.files g.H.Host.printed c.gathered.new.host)
     (seen g.H.Host.faults g.H.Host.files g.H.Host.printed c.work.new.host)
@@ -21,12 +21,12 @@ returns-in-Ok-clause-answer g c =
 pub returns-in-Err-clause-answer : goal.returns-in-Err-clause-answer
 returns-in-Err-clause-answer g c =
     for_each (g.H.Host.files c.args.host.now) _ _
-    (λ source read. send_stopped (names_of c.args.names.now) c.in-Err.stop source
+    (λ source read. send_stopped load_seen (names_of c.args.names.now) c.in-Err.stop source
     (seen g.H.Host.faults g.H.Host.files g.H.Host.printed c.args.host.now)
     (seen g.H.Host.faults g.H.Host.files g.H.Host.printed c.gathered.new.host)
     (seen g.H.Host.faults g.H.Host.files g.H.Host.printed c.tell_named-status.new.host)
-    c.tell_named-status.result read c.in-Err.ensures.files c.in-Err.ensures.printed c.in-Err.ensures.later (λ e. c.in-Err.ensures.failed (same_stop _ c.in-Err.stop ReadFailed e)) c.tell_named-status.ensures)
+    c.tell_named-status.result read c.in-Err.ensures.files c.in-Err.ensures.printed c.in-Err.ensures.later (λ e. c.in-Err.ensures.failed e) c.tell_named-status.ensures)
     c.in-Err.ensures.read
 
 pub returns-in-Err-clause-by_words : goal.returns-in-Err-clause-by_words
-returns-in-Err-clause-by_words g c = from_files (g.H.Host.files c.args.host.now) _ _ (λ source read. not_by_words frames_in (names_of c.args.names.now) c.in-Err.stop (read_of (names_of c.args.names.now) source) _ _ c.tell_named-status.result read c.tell_named-status.ensures) c.in-Err.ensures.read
+returns-in-Err-clause-by_words g c = from_files (g.H.Host.files c.args.host.now) _ _ (λ source read. not_by_words load_seen (names_of c.args.names.now) c.in-Err.stop (read_of (names_of c.args.names.now) source) _ _ c.tell_named-status.result read c.tell_named-status.ensures) c.in-Err.ensures.read

@@ -12,14 +12,14 @@ use Rattle.ifl_engine.proofs.top.work.Goals as goal
 pub returns-in-Err-clause-answer : goal.returns-in-Err-clause-answer
 returns-in-Err-clause-answer g c =
     let before = (seen g.H.Host.faults g.H.Host.files g.H.Host.printed c.args.host.now) in
-    let work = Ok (sending (names_of c.args.names.now) (c.args.capture.frames ∷ [])) in
+    let work = Ok (sending (names_of c.args.names.now) c.args.load.max_frame (c.args.load.capture.frames ∷ [])) in
     gave_up (names_of c.args.names.now) work stop.Memory before before
     (seen g.H.Host.faults g.H.Host.files g.H.Host.printed c.tell_named-status.new.host)
     c.tell_named-status.result (inr refl) tt (λ five. absurd (omega (arith, five))) refl (begins_empty stop.Memory (IsEnding work None) before.printed before.printed refl) (omega arith) c.tell_named-status.ensures
 
 pub returns-in-Err-put_out-clause-answer : goal.returns-in-Err-put_out-clause-answer
 returns-in-Err-put_out-clause-answer g c =
-    write_stopped (names_of c.args.names.now) (c.args.capture.frames ∷ []) c.in-Ok.report c.in-Err-put_out.stop
+    write_stopped (names_of c.args.names.now) c.args.load.max_frame (c.args.load.capture.frames ∷ []) c.in-Ok.report c.in-Err-put_out.stop
     (seen g.H.Host.faults g.H.Host.files g.H.Host.printed c.args.host.now)
     (seen g.H.Host.faults g.H.Host.files g.H.Host.printed c.put_out.new.host)
     (seen g.H.Host.faults g.H.Host.files g.H.Host.printed c.tell_named-status-in-Err-put_out.new.host)

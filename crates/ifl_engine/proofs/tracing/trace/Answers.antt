@@ -1,9 +1,8 @@
 use Rattle.std.proofs.Common.{None}
-use Rattle.ifl_engine.specs.declared.stop.Stop.TheVariants.{ReadFailed}
 use Rattle.ifl_engine.specs.Seen.{seen}
 use Rattle.ifl_engine.proofs.ReadLaws.{for_each}
 use Rattle.ifl_engine.proofs.Since.{trace_read}
-use Rattle.ifl_engine.proofs.Stopping.{trace_stopped, same_stop}
+use Rattle.ifl_engine.proofs.Stopping.{trace_stopped}
 use Rattle.ifl_engine.proofs.tracing.trace.Goals as goal
 
 pub returns-in-Ok-clause-answer : goal.returns-in-Ok-clause-answer
@@ -23,5 +22,5 @@ returns-in-Err-clause-answer g c =
     (seen g.H.Host.faults g.H.Host.files g.H.Host.printed c.args.host.now)
     (seen g.H.Host.faults g.H.Host.files g.H.Host.printed c.read_file.new.host)
     (seen g.H.Host.faults g.H.Host.files g.H.Host.printed c.tell.new.host)
-    c.tell.result read c.in-Err.ensures.files c.in-Err.ensures.printed c.in-Err.ensures.later (λ e. c.in-Err.ensures.failed (same_stop _ c.in-Err.stop ReadFailed e)) c.tell.ensures)
+    c.tell.result read c.in-Err.ensures.files c.in-Err.ensures.printed c.in-Err.ensures.later (λ e. c.in-Err.ensures.failed e) c.tell.ensures)
     c.in-Err.ensures.read
