@@ -1,6 +1,7 @@
 -- The settings file and the capture's file: what they were read as, one after the other, and what they say.
-use Rattle.std.proofs.Common.{◌≡◌, ℕ, List, Option, Some, None, Result, Ok, Err, sym, ap, ◌∙◌}
+use Rattle.std.proofs.Common.{◌≡◌, ◌≢◌, ℕ, List, Option, Some, None, Result, Ok, Err, sym, ap, subst, ◌∙◌}
 use Rattle.ifl_conf.specs.declared.setting_fault.SettingFault.{SettingFault}
+use Rattle.ifl_conf.specs.declared.setting_fault.SettingFault.TheVariants as fault
 use Rattle.ifl_conf.specs.declared.settings.Settings.{Settings}
 use Rattle.ifl_conf.specs.declared.keys.KeyName.TheVariants.{FramesMaxFrame}
 use Rattle.ifl_conf.specs.Keys.{Setting, number, row}
@@ -13,7 +14,7 @@ use Rattle.ifl_engine.specs.declared.reading.Load.{Load}
 use Rattle.ifl_engine.specs.Words.{Named}
 use Rattle.ifl_engine.specs.Wanted.{Held, Source, Bytes, ◌>>=◌, file_at, settings_file, bytes_read, max_frame_by, max_frame_in, load_in, read_of}
 use Rattle.ifl_engine.specs.Loaded.{load_seen}
-use Rattle.ifl_engine.specs.Steps.{IsRead}
+use Rattle.ifl_engine.specs.Steps.{IsRead, IsReadFailure, stop_by_settings}
 use Rattle.ifl_engine.proofs.ReadLaws.{bytes_of, IsRead-stopped, IsRead-then}
 
 -- ---- the most bytes of a frame
@@ -33,8 +34,18 @@ pub max_frame_in-set : (file : Option (List ℕ)) (bytes text : List ℕ) (n : �
 max_frame_in-set file bytes text n some same valid set =
     of_text file bytes text some same ∙ ap (λ (f : Option SettingFault). max_frame_by f (set_by text FramesMaxFrame)) valid ∙ ap (max_frame_by None) set
 
-pub max_frame_in-bad : (file : Option (List ℕ)) (bytes text : List ℕ) (e : SettingFault) → file ≡ Some bytes → text ≡ bytes → fault_of text ≡ Some e → max_frame_in file ≡ Err (stop.Settings e)
+max_frame_in-bad : (file : Option (List ℕ)) (bytes text : List ℕ) (e : SettingFault) → file ≡ Some bytes → text ≡ bytes → fault_of text ≡ Some e → max_frame_in file ≡ Err (stop.Settings e)
 max_frame_in-bad file bytes text e some same fault = of_text file bytes text some same ∙ ap (λ (f : Option SettingFault). max_frame_by f (set_by text FramesMaxFrame)) fault
+
+abbrev IsRefused : Option (List ℕ) → Stop → Type 0
+IsRefused file why = IsRead (λ (n : ℕ). n) (Err why) (max_frame_in file) × (IsReadFailure why → ⊥)
+
+-- a settings file that is refused is not read, and it is not the host that failed
+pub max_frame_in-refused : (file : Option (List ℕ)) (bytes text : List ℕ) (e : SettingFault) (why : Stop) → file ≡ Some bytes → text ≡ bytes → (e ≢ fault.Memory → fault_of text ≡ Some e) → why ≡ stop_by_settings e → IsRefused file why
+max_frame_in-refused file bytes text fault.Text why some same told is = subst (IsRefused file) (sym is) (max_frame_in-bad file bytes text fault.Text some same (told (λ m. absurd cc)), λ h. h)
+max_frame_in-refused file bytes text fault.Unknown why some same told is = subst (IsRefused file) (sym is) (max_frame_in-bad file bytes text fault.Unknown some same (told (λ m. absurd cc)), λ h. h)
+max_frame_in-refused file bytes text (fault.Key k) why some same told is = subst (IsRefused file) (sym is) (max_frame_in-bad file bytes text (fault.Key k) some same (told (λ m. absurd cc)), λ h. h)
+max_frame_in-refused file bytes text fault.Memory why some same told is = subst (IsRefused file) (sym is) (tt, λ h. h)
 
 -- ---- two files
 

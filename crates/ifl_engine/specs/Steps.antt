@@ -7,6 +7,8 @@ use Rattle.ifl_outside.specs.declared.fault.HostError.{HostError}
 use Rattle.ifl_outside.specs.declared.fault.HostError.TheVariants as host
 use Rattle.ifl_pcap.specs.declared.frame.Frame.{Frame}
 use Rattle.ifl_pcap.specs.File.{Fits}
+use Rattle.ifl_conf.specs.declared.setting_fault.SettingFault.{SettingFault}
+use Rattle.ifl_conf.specs.declared.setting_fault.SettingFault.TheVariants as setting
 use Rattle.ifl_engine.specs.declared.stop.Stop.{Stop}
 use Rattle.ifl_engine.specs.declared.stop.Stop.TheVariants as stop
 use Rattle.ifl_engine.specs.Words.{Named}
@@ -38,6 +40,13 @@ IsReadFailure e = ⊥
 abbrev pub IsReadFailed : {X : Type 0} → Result X Stop → Type 0
 IsReadFailed (Ok x) = ⊥
 IsReadFailed (Err why) = IsReadFailure why
+
+-- the stop for a settings file that is refused, or for which there was no memory
+abbrev pub stop_by_settings : SettingFault → Stop
+stop_by_settings setting.Text = stop.Settings setting.Text
+stop_by_settings setting.Unknown = stop.Settings setting.Unknown
+stop_by_settings (setting.Key k) = stop.Settings (setting.Key k)
+stop_by_settings setting.Memory = stop.Memory
 
 -- the stop for a call of the host that did not succeed
 abbrev pub stop_by : HostError → Stop → Stop

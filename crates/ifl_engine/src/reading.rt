@@ -3,7 +3,7 @@ ghost use Rattle.ifl_outside.specs.Causes.{Rose};
 ghost use Rattle.ifl_engine.specs.Read.{names_of};
 ghost use Rattle.ifl_engine.specs.Wanted.{file_at, settings_file, bytes_read, max_frame_in, captures_in, load_in, read_of};
 ghost use Rattle.ifl_engine.specs.Answer.{ForFiles};
-ghost use Rattle.ifl_engine.specs.Steps.{IsSmall, IsRead, IsReadFailed};
+ghost use Rattle.ifl_engine.specs.Steps.{IsSmall, IsRead, IsReadFailed, stop_by_settings};
 ghost use Rattle.ifl_engine.specs.declared.stop.Input.TheVariants as input;
 ghost use Rattle.ifl_engine.specs.Loaded.{bytes_seen, load_seen};
 
@@ -99,6 +99,16 @@ fn read_files<H: Host>(alloc: Global, names: &SendWords, host: &mut H) -> Result
     }
 }
 
+/// The stop for a settings file that is refused, or for which there was no memory.
+fn settings_stop(fault: SettingFault) -> Stop
+    ensures { result ≡ stop_by_settings fault }
+{
+    match fault {
+        SettingFault::Memory => Stop::Memory,
+        _ => Stop::Settings(fault),
+    }
+}
+
 /// The most bytes of a frame: as the settings file has it, or the standard.
 fn max_frame(alloc: Global, files: &Files) -> Result<u32, Stop>
     ensures read { IsRead (λ n. n) result (max_frame_in (option_map (λ v. v.items) files.now.settings)) }
@@ -108,8 +118,7 @@ fn max_frame(alloc: Global, files: &Files) -> Result<u32, Stop>
         None => Ok(Settings::standard().frames.max_frame),
         Some(bytes) => match read_settings(alloc, bytes) {
             Ok(settings) => Ok(settings.frames.max_frame),
-            Err(SettingFault::Memory) => Err(Stop::Memory),
-            Err(fault) => Err(Stop::Settings(fault)),
+            Err(fault) => Err(settings_stop(fault)),
         },
     }
 }

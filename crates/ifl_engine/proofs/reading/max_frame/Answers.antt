@@ -3,7 +3,7 @@ use Rattle.std.specs.Prelude.{option_map}
 use Rattle.std.specs.Global.{Vec}
 use Rattle.ifl_conf.specs.declared.keys.KeyName.TheVariants.{FramesMaxFrame}
 use Rattle.ifl_engine.proofs.ReadLaws.{bytes_of}
-use Rattle.ifl_engine.proofs.Loading.{max_frame_in-standard, max_frame_in-set, max_frame_in-bad}
+use Rattle.ifl_engine.proofs.Loading.{max_frame_in-standard, max_frame_in-set, max_frame_in-refused}
 use Rattle.ifl_engine.proofs.reading.max_frame.Goals as goal
 
 pub returns-in-None-clause-read : goal.returns-in-None-clause-read
@@ -13,8 +13,8 @@ pub returns-in-Ok-clause-read : goal.returns-in-Ok-clause-read
 returns-in-Ok-clause-read c =
     max_frame_in-set _ c.in-Some.bytes.items c.deref.result.now c.in-Ok.settings.frames.max_frame (ap (option_map bytes_of) c.in-Some.is) c.deref.ensures.value c.in-Ok.ensures.valid (c.in-Ok.ensures.set FramesMaxFrame)
 
-pub returns-in-Err : goal.returns-in-Err
-returns-in-Err c = record {
-  read = max_frame_in-bad _ c.in-Some.bytes.items c.deref.result.now c.in-Err.fault (ap (option_map bytes_of) c.in-Some.is) c.deref.ensures.value (c.in-Err.ensures.fault c.in-Err.fault-is);
-  no_fault = λ h. h;
-}
+pub returns-in-Err-clause-read : goal.returns-in-Err-clause-read
+returns-in-Err-clause-read c = (max_frame_in-refused _ c.in-Some.bytes.items c.deref.result.now c.in-Err.fault c.settings_stop.result (ap (option_map bytes_of) c.in-Some.is) c.deref.ensures.value c.in-Err.ensures.fault c.settings_stop.ensures).0
+
+pub returns-in-Err-clause-no_fault : goal.returns-in-Err-clause-no_fault
+returns-in-Err-clause-no_fault c = (max_frame_in-refused _ c.in-Some.bytes.items c.deref.result.now c.in-Err.fault c.settings_stop.result (ap (option_map bytes_of) c.in-Some.is) c.deref.ensures.value c.in-Err.ensures.fault c.settings_stop.ensures).1
