@@ -1,6 +1,7 @@
 -- Words that are refused, and the status that they give.
-use Rattle.std.proofs.Common.{◌≡◌, ◌≢◌, ℕ, ◌<◌, [], None, Result, Ok, Err, refl, sym, ap, subst, ◌∙◌, arith, inl, inr}
+use Rattle.std.proofs.Common.{◌≡◌, ◌≢◌, ℕ, ◌<◌, [], Option, None, Result, Ok, Err, refl, sym, ap, subst, ◌∙◌, arith, inl, inr}
 use Rattle.ifl_engine.specs.declared.report.Finished.{Finished}
+use Rattle.ifl_engine.specs.declared.report.Report.{Report}
 use Rattle.ifl_conf.specs.declared.word_fault.WordFault.{WordFault}
 use Rattle.ifl_conf.specs.declared.word_fault.WordFault.TheVariants as fault
 use Rattle.ifl_engine.specs.declared.stop.Stop.{Stop}
@@ -34,6 +35,11 @@ refused_by_words r source fault.Names before after status is told = refused_as r
 refused_by_words r source fault.Memory before after status is told =
     let here : IsTold (names_or_none r) stop.Memory before after status = record { status = told.status; later = told.later; files = told.files; line = told.line; begun = told.begun } in
     gave_up (names_or_none r) (wanted_by r source) stop.Memory before before after status (inr refl) tt (λ five. absurd (omega (arith, five))) refl (begins_empty stop.Memory (IsEnding (wanted_by r source) None) before.printed before.printed refl) (omega arith) here
+
+pub refused_finished : (r : Result Asked WordFault) (source : Source) (f : WordFault) (before after : Seen) (result : Finished) → result.report ≡ None → GivesWords (Err f) r → IsTold none (stop.Words f) before after result.status
+    → IsAnswer (names_or_none r) (wanted_by r source) before after result
+refused_finished r source f before after result without is told =
+    subst (λ (o : Option Report). IsAnswer (names_or_none r) (wanted_by r source) before after (record { status = result.status; report = o })) (sym without) (refused_by_words r source f before after result.status is told)
 
 pub answered : (r : Result Asked WordFault) (command : Asked) (source : Source) (before after : Seen) (result : Finished) → r ≡ Ok command → IsAnswer (names_asked command) (work_of command source) before after result → IsAnswer (names_or_none r) (wanted_by r source) before after result
 answered r command source before after result is h =

@@ -1,4 +1,4 @@
-ghost use Rattle.std.specs.Prelude.{◌≡◌, ◌≢◌, ◌∷◌, [], Ok, IfSome, IsNone, map};
+ghost use Rattle.std.specs.Prelude.{◌≡◌, ◌≢◌, ◌∷◌, [], Ok, None, IfSome, IsNone, map};
 ghost use Rattle.std.specs.String.{string_bytes};
 ghost use Rattle.ifl_outside.specs.Causes.{Rose};
 ghost use Rattle.ifl_outside.specs.Told.{BothTold};
@@ -10,7 +10,7 @@ ghost use Rattle.ifl_engine.specs.Seen.{seen};
 ghost use Rattle.ifl_engine.specs.Left.{IsStanding};
 ghost use Rattle.ifl_engine.specs.CutShort.{IsCutShort};
 ghost use Rattle.ifl_engine.specs.Answer.{ForFiles, IsAnswer, IsDone, IfSending, IsReported, IsStatus, IsCalledFor, IsByWords, Tells};
-ghost use Rattle.ifl_engine.specs.Steps.{IsSmall};
+ghost use Rattle.ifl_engine.specs.Steps.{IsSmall, IsTold};
 
 use crate::plain::report_of;
 use crate::reading::{Load, gathered};
@@ -78,6 +78,19 @@ fn send<H: Host>(alloc: Global, names: &SendWords, host: &mut H) -> Finished
     }
 }
 
+/// The end of a run whose words are refused.
+fn refuse<H: Host>(alloc: Global, fault: WordFault, host: &mut H) -> Finished
+    ensures report { result.report ≡ None }
+    ensures told { IsTold (record { settings = None; wire = []; order = []; file = [] }) (Stop.Words fault)
+        (seen H.faults H.files H.printed host.old) (seen H.faults H.files H.printed host.new) result.status }
+{
+    let status = tell(alloc, "", Stop::Words(fault), host);
+    Finished {
+        status,
+        report: None,
+    }
+}
+
 /// The whole call, with one account of the files for all that is said of it.
 fn answer<H: Host>(alloc: Global, words: &[String], host: &mut H) -> Finished
     ensures by_words { IsByWords (asked_by_words (map string_bytes words.now)) result.status }
@@ -93,20 +106,9 @@ fn answer<H: Host>(alloc: Global, words: &[String], host: &mut H) -> Finished
                 report: None,
             }
         }
-        Ok(Command::Gen(_) | Command::Check(_)) => {
-            let status = tell(alloc, "", Stop::Words(WordFault::Refused), host);
-            Finished {
-                status,
-                report: None,
-            }
-        }
-        Err(fault) => {
-            let status = tell(alloc, "", Stop::Words(fault), host);
-            Finished {
-                status,
-                report: None,
-            }
-        }
+        Ok(Command::Gen(_)) => refuse(alloc, WordFault::Refused, host),
+        Ok(Command::Check(_)) => refuse(alloc, WordFault::Refused, host),
+        Err(fault) => refuse(alloc, fault, host),
     }
 }
 

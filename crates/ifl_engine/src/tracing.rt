@@ -99,7 +99,9 @@ fn answer_trace<H: Host>(alloc: Global, words: &[String], host: &mut H) -> u8
 {
     match asked(alloc, words) {
         Ok(Command::Trace { file }) => trace(alloc, file.as_str(), host),
-        Ok(_) => tell(alloc, "", Stop::Words(WordFault::Refused), host),
+        Ok(Command::Send(_)) => tell(alloc, "", Stop::Words(WordFault::Refused), host),
+        Ok(Command::Gen(_)) => tell(alloc, "", Stop::Words(WordFault::Refused), host),
+        Ok(Command::Check(_)) => tell(alloc, "", Stop::Words(WordFault::Refused), host),
         Err(fault) => tell(alloc, "", Stop::Words(fault), host),
     }
 }

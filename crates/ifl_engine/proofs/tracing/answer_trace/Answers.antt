@@ -14,7 +14,7 @@ returns-in-Ok-Send-clause-answer g c =
     (λ source. refused_by_words (only_trace (asked (map string_bytes c.args.words.now))) source fault.Refused
     (seen g.H.Host.faults g.H.Host.files g.H.Host.printed c.args.host.now)
     (seen g.H.Host.faults g.H.Host.files g.H.Host.printed c.tell.new.host)
-    c.tell.result (ap only_trace (rw c.in-Ok-Send.field-0-is at c.in-Ok-Send.ensures)) c.tell.ensures)
+    c.tell.result (ap only_trace (rw c.in-Ok-Send.field-0-is at c.in-Ok-Send.ensures.gives)) c.tell.ensures)
 
 pub returns-clause-answer : goal.returns-clause-answer
 returns-clause-answer g c =
@@ -22,4 +22,4 @@ returns-clause-answer g c =
     (λ source. refused_by_words (only_trace (asked (map string_bytes c.args.words.now))) source c.in-Err.fault
     (seen g.H.Host.faults g.H.Host.files g.H.Host.printed c.args.host.now)
     (seen g.H.Host.faults g.H.Host.files g.H.Host.printed c.tell-in-Err.new.host)
-    c.tell-in-Err.result (GivesWords-only_trace c.in-Err.fault (asked (map string_bytes c.args.words.now)) c.in-Err.ensures) c.tell-in-Err.ensures)
+    c.tell-in-Err.result (GivesWords-only_trace c.in-Err.fault (asked (map string_bytes c.args.words.now)) c.in-Err.ensures.gives) c.tell-in-Err.ensures)
