@@ -1,4 +1,4 @@
-ghost use Rattle.std.specs.Prelude.{◌≡◌, ◌≤◌, ◌∷◌, [], length, option_map, IfOk, IsErrOf};
+ghost use Rattle.std.specs.Prelude.{◌≡◌, ◌≤◌, ◌∷◌, [], length, option_map, IfOk};
 ghost use Rattle.ifl_outside.specs.Causes.{Rose};
 ghost use Rattle.ifl_engine.specs.Read.{names_of};
 ghost use Rattle.ifl_engine.specs.Wanted.{file_at, settings_file, bytes_read, max_frame_in, captures_in, load_in, read_of};

@@ -67,12 +67,7 @@ fn print_replay<H: Host>(alloc: Global, file: &str, bytes: &[u8], host: &mut H) 
         Err(NoMemory) => tell(alloc, file, Stop::Memory, host),
         Ok(Replay { text, status }) => match host.print(alloc, text.as_slice()) {
             Ok(()) => status,
-            Err(HostError::Failed) if status == 0 => tell(
-                alloc,
-                file,
-                Stop::PrintFailed,
-                host,
-            ),
+            Err(HostError::Failed) if status == 0 => tell(alloc, file, Stop::PrintFailed, host),
             Err(HostError::Failed) => status,
             Err(HostError::Memory) => tell(alloc, file, Stop::Memory, host),
         },
