@@ -1,13 +1,11 @@
 -- An engine after each of its steps.
-use Rattle.std.proofs.Common.{◌≡◌, ℕ, zero, suc, ◌+◌, ◌-◌, ◌*◌, ◌^◌, ◌<◌, ◌≤◌, Bool, true, false, List, [], ◌∷◌, ◌++◌, length, map, take, sym, refl, ap, ◌∙◌, subst, arith, append-nil, append_assoc, length-append}
-use mathlib.Core.List.{IsPrefix}
+use Rattle.std.proofs.Common.{◌≡◌, ℕ, suc, ◌+◌, ◌*◌, ◌^◌, ◌<◌, ◌≤◌, Bool, true, false, List, [], ◌∷◌, ◌++◌, length, map, take, sym, refl, ap, ◌∙◌, subst, arith, append-nil, append_assoc, length-append}
 use Rattle.std.specs.List.{flat_map}
 use Rattle.std.specs.Bool.{OnTrue, OnFalse}
 use Rattle.std.proofs.lemmas.List.{take-append-le, map-append, length-map}
 use Rattle.ifl_pcap.specs.declared.frame.Frame.{Frame}
-use Rattle.ifl_pcap.specs.Numbers.{spelled}
 use Rattle.ifl_pcap.specs.File.{written, written_header, record_of}
-use Rattle.ifl_pcap.proofs.Fields.{length-spelled}
+use Rattle.ifl_pcap.proofs.Parts.{length-record_of}
 use Rattle.ifl_desc.specs.declared.desc.Desc.{Desc}
 use Rattle.ifl_desc.specs.declared.history.Side.TheVariants.{Driver, Device}
 use Rattle.ifl_desc.specs.declared.history.Event.{Event}
@@ -56,12 +54,7 @@ written_more : (fs : List Frame) (f : Frame) → written (fs ++ f ∷ []) ≡ wr
 written_more fs f = ap (λ (z : List ℕ). written_header ++ z) (flat_more fs (f ∷ []) ∙ ap (λ (z : List ℕ). flat_map record_of fs ++ z) (flat_one f)) ∙ sym (append_assoc written_header (flat_map record_of fs) (record_of f))
 
 record_long : (f : Frame) → 16 ≤ length (record_of f)
-record_long f =
-    let a = length-append (spelled f.stamp.sec) (spelled f.stamp.usec ++ (spelled (length f.bytes) ++ (spelled f.stamp.orig ++ f.bytes))) in
-    let b = length-append (spelled f.stamp.usec) (spelled (length f.bytes) ++ (spelled f.stamp.orig ++ f.bytes)) in
-    let c = length-append (spelled (length f.bytes)) (spelled f.stamp.orig ++ f.bytes) in
-    let d = length-append (spelled f.stamp.orig) f.bytes in
-    let e = length-spelled f.stamp.sec in let g = length-spelled f.stamp.usec in let h = length-spelled (length f.bytes) in let i = length-spelled f.stamp.orig in omega arith
+record_long f = omega (arith, length-record_of f)
 
 flat_long : (fs : List Frame) → 16 * length fs ≤ length (flat_map record_of fs)
 flat_long [] = omega arith

@@ -1,17 +1,15 @@
 -- What several steps of an engine did together.
-use Rattle.std.proofs.Common.{◌≡◌, ℕ, zero, suc, ◌+◌, ◌<◌, ◌≤◌, List, [], ◌∷◌, ◌++◌, length, map, sym, refl, ap, ◌∙◌, subst, arith, append_assoc, length-append, inl, inr}
+use Rattle.std.proofs.Common.{◌≡◌, ℕ, ◌+◌, List, [], ◌∷◌, ◌++◌, length, map, sym, refl, ap, ◌∙◌, arith, append_assoc, length-append}
 use mathlib.Core.List.{IsPrefix}
 use Rattle.std.specs.List.{flat_map}
 use Rattle.std.proofs.lemmas.List.{map-append}
 use Rattle.ifl_pcap.specs.File.{record_of}
 use Rattle.ifl_desc.specs.declared.desc.Desc.{Desc}
-use Rattle.ifl_desc.specs.declared.history.Side.TheVariants.{Device}
 use Rattle.ifl_desc.specs.declared.history.Event.{Event}
-use Rattle.ifl_desc.specs.History.{known, looks}
 use Rattle.ifl_desc.proofs.Closing.{prefix_trans}
 use Rattle.ifl_device.specs.Adapter.{captured, record_size}
 use Rattle.ifl_device.specs.Wire.{left_in}
-use Rattle.ifl_device.specs.Engine.{EngineSees, IsEngine, Emits, LooksOnce, LooksNot, IsTold, IsDrained, IsFull, Moves}
+use Rattle.ifl_device.specs.Engine.{EngineSees, IsEngine, Emits, LooksOnce, LooksNot, IsTold, IsFull, Moves}
 use Rattle.ifl_device.proofs.Engines.{flat_more}
 
 -- some frames, and then others

@@ -8,7 +8,7 @@ use Rattle.ifl_desc.specs.declared.history.Event.{Event}
 use Rattle.ifl_desc.specs.declared.history.Event.TheVariants.{Sent, Looked}
 use Rattle.ifl_desc.specs.History.{sent}
 use Rattle.ifl_desc.specs.Frames.{open_after, IsShort, IsWhole, IsFrame, AllFine}
-use Rattle.ifl_device.specs.Adapter.{frames_from, frames_of, IsWholeFrame, bytes_of, stamp_of, captured, emitted_as}
+use Rattle.ifl_device.specs.Adapter.{frames_from, frames_of, IsWholeFrame, bytes_of, captured, emitted_as}
 use Rattle.ifl_device.specs.Engine.{AreUnmarked}
 
 pub open_append : (n : ℕ) (xs ys : List Desc) → open_after n (xs ++ ys) ≡ open_after (open_after n xs) ys

@@ -1,5 +1,5 @@
 -- The frames of a list of descriptors, and the records that they are on the wire.
-use Rattle.std.specs.Prelude.{◌≡◌, ℕ, ◌+◌, List, [], ◌∷◌, ◌++◌, length, map, true, false, cond}
+use Rattle.std.specs.Prelude.{◌≡◌, ℕ, ◌+◌, List, [], ◌∷◌, ◌++◌, length, true, false, cond}
 use Rattle.ifl_base.specs.declared.ticket.Stamp.{Stamp}
 use Rattle.ifl_pcap.specs.declared.frame.Frame.{Frame}
 use Rattle.ifl_desc.specs.declared.desc.Status.TheVariants.{Emitted}

@@ -1,6 +1,7 @@
 //! The wire: a capture that grows by a record at a time, in room that was taken once.
 ghost use Rattle.std.specs.Prelude.{◌≡◌, ◌+◌, ◌-◌, ◌<◌, ◌≤◌, ◌^◌, ◌++◌, [], length, vec_capacity, IfOk};
-ghost use Rattle.ifl_pcap.specs.Numbers.{spelled};
+ghost use Rattle.ifl_pcap.specs.declared.form.Order.TheVariants.{Little};
+ghost use Rattle.ifl_pcap.specs.Numbers.{spelled_in};
 ghost use Rattle.ifl_pcap.specs.File.{record_of, written};
 ghost use Rattle.ifl_device.specs.Adapter.{bytes_of, captured, record_size, stamp_of};
 ghost use Rattle.ifl_device.specs.Wire.{left_in};
@@ -77,10 +78,10 @@ fn put(out: &mut Vec<u8>, bytes: &[u8])
 }
 
 /// Appends a number's four bytes, the lowest first.
-#[tactic(auto, unfolding(ifl_pcap::specs::Numbers::spelled))]
+#[tactic(auto, unfolding(ifl_pcap::specs::Numbers::spelled_in))]
 fn put_number(out: &mut Vec<u8>, n: u32)
     requires { length out.old.items + 4 ≤ vec_capacity out.old }
-    ensures items { out.new.items ≡ out.old.items ++ spelled n }
+    ensures items { out.new.items ≡ out.old.items ++ spelled_in Little n }
     ensures len { length out.new.items ≡ length out.old.items + 4 }
     ensures capacity { vec_capacity out.old ≤ vec_capacity out.new }
 {
@@ -92,7 +93,7 @@ fn put_number(out: &mut Vec<u8>, n: u32)
 /// Appends what a record has before its frame.
 fn put_head(out: &mut Vec<u8>, stamp: &Stamp, len: u32)
     requires { length out.old.items + 16 ≤ vec_capacity out.old }
-    ensures items { out.new.items ≡ out.old.items ++ (spelled stamp.now.sec ++ (spelled stamp.now.usec ++ (spelled len ++ spelled stamp.now.orig))) }
+    ensures items { out.new.items ≡ out.old.items ++ (spelled_in Little stamp.now.sec ++ (spelled_in Little stamp.now.usec ++ (spelled_in Little len ++ spelled_in Little stamp.now.orig))) }
     ensures len { length out.new.items ≡ length out.old.items + 16 }
     ensures capacity { vec_capacity out.old ≤ vec_capacity out.new }
 {

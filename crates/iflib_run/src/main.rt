@@ -3,6 +3,8 @@
 //! It stands on `ifl_engine`, whose `run` carries every claim about it.
 #![tactic(auto)]
 
+ghost use Rattle.std.specs.Prelude.{◌≡◌, ◌≢◌};
+
 use ifl_engine::run;
 use ifl_outside::{FreeGate, Host, RealHost};
 use std::alloc::Global;
@@ -20,7 +22,11 @@ fn read_arguments(alloc: Global, rt: &HostRuntime) -> io::Result<Vec<String>> {
 }
 
 /// What ends a program whose words could not be read: one of them is not UTF-8, or there was no memory.
-fn refuse<H: Host>(alloc: Global, host: &mut H, kind: ErrorKind) -> u8 {
+fn refuse<H: Host>(alloc: Global, host: &mut H, kind: ErrorKind) -> u8
+    ensures memory { kind ≡ ErrorKind.OutOfMemory → result ≡ 6 }
+    ensures words { kind ≢ ErrorKind.OutOfMemory → result ≡ 1 }
+    ensures files { H.files host.new ≡ H.files host.old }
+{
     let (line, status) = match kind {
         ErrorKind::OutOfMemory => (b"memory\n".as_slice(), 6),
         _ => (b"words: refused\n".as_slice(), 1),
