@@ -1,0 +1,21 @@
+use Rattle.std.proofs.Common.{rules, arith, ℕ, refl, sym, ◌∙◌, ◌≡◌, subst, ap}
+use Rattle.ifl_base.specs.declared.word.RingWord.{RingWord}
+use Rattle.ifl_base.specs.Word.{pack}
+use Rattle.ifl_base.specs.Space.{advanced}
+use Rattle.ifl_ring.proofs.Reserving.{reserves}
+use Rattle.ifl_ring.proofs.Bridge.{reserve_ok, reserve_err}
+use Rattle.ifl_ring.proofs.bare.BareRing.reserve.Goals as goal
+
+pub compare_exchange_with-found-requires : goal.compare_exchange_with-found-requires
+compare_exchange_with-found-requires g c = let r = c.args.self.now.range in let k : c.args.self.now.table.shared.key.size ≡ c.args.self.now.size = c.args.self.now.keyed in let w : RingWord = c.args.w.now in (
+  c.requires.table,
+  search rules,
+  reserves g.D.Item.RingItem.meaning g.D.Drainer.origin g.D.Drainer.settled g.D.Drainer.full g.D.Drainer.stands_for _ _ _ _ _ _ c.args.n c.args.w.now c.requires.rest.1 c.requires.rest.0 c.requires.room.0 (rw k r.1) (rw k c.requires.word) c.pack-old.ensures (rw k c.requires.room.1)
+      (c.pack.ensures ∙ ap (λ (z : ℕ). pack record w { head = z }) (c.advance.ensures ∙ ap (λ (z : ℕ). advanced z w.head c.args.n) (sym k))),
+)
+
+pub returns-then-found-old-clause-ok : goal.returns-then-found-old-clause-ok
+returns-then-found-old-clause-ok g c = reserve_ok c.args.self.now.table.shared.table_id.slots c.args.self.now.size c.args.n c.pack-old.result c.pack.result c.compare_exchange_with-found.result (pack c.args.w.now) c.args.seat.now.me c.compare_exchange_with-found.new.seat.me c.args.self.now.sized.1 c.requires.rest.2 c.pack-old.ensures c.if-found-old.true c.compare_exchange_with-found.ensures.2
+
+pub returns-clause-err : goal.returns-clause-err
+returns-clause-err g c = reserve_err c.args.self.now.table.shared.table_id.slots c.args.self.now.size c.args.n c.pack-old.result c.pack.result c.compare_exchange_with-found.result c.args.seat.now.me c.compare_exchange_with-found.new.seat.me c.args.self.now.sized.1 c.requires.rest.2 c.if-found-old.false c.compare_exchange_with-found.ensures.2

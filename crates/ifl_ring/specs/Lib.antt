@@ -1,0 +1,12 @@
+pub mod Acts
+pub mod Words
+pub mod Law
+pub mod Tells
+pub mod Draining
+pub mod PutBack
+pub mod Rings
+pub mod Tally
+pub mod Calls
+pub mod Trails
+pub mod Publishing
+pub mod Closed

@@ -1,0 +1,118 @@
+//! A seat reserves places, or is refused.
+ghost use Rattle.std.specs.Prelude.{◌⊎◌, true, false, ◌≡◌, ◌≢◌, ◌+◌, ◌<◌, ◌≤◌, ℕ, ◌%◌, [], ◌∷◌, ◌++◌, map, length, IfOk, IfErr, IfSome, IfNone, MatchOption};
+ghost use Rattle.std.specs.VecDeque.{deque_capacity};
+ghost use Rattle.ifl_base.specs.Space.{space, advanced};
+ghost use Rattle.ifl_base.specs.Word.{pack, IsWithin};
+ghost use Rattle.ifl_ringcore.specs.declared.history.Entry.{Entry};
+ghost use Rattle.ifl_ringcore.specs.declared.history.Step.TheVariants as step;
+ghost use Rattle.ifl_ringcore.specs.Conditions.{IsBatch};
+ghost use Rattle.ifl_ringcore.specs.Counters.{nothing_counted};
+ghost use Rattle.ifl_ring.specs.Calls.{AreLooks, Finds, IsRefused, publishing};
+ghost use Rattle.ifl_ring.specs.Law.{Rests};
+ghost use Rattle.ifl_ring.specs.Publishing.{HasPlaces};
+ghost use Rattle.ifl_ring.specs.Tells.{entry, Made};
+ghost use Rattle.ifl_ring.specs.Trails.{IsLived, Trails};
+
+use crate::bare::{BareRing, BareSeat, read};
+use crate::drainer::{Drainer, RingItem};
+use crate::place::Place;
+use crate::plays::Refuse;
+use ifl_base::{RingWord, space};
+use std::sync::Wait;
+use std::thread::yield_now;
+
+// How often a seat looks, before it reserves, for a word in which no seat is about to publish.
+const LOOKS: u32 = 64;
+
+impl<D: Drainer> BareRing<D> {
+    /// A step that finds any word: in one with no room for `n` items the seat is refused, in others it looks.
+    pub fn refuse(&self, seat: &mut BareSeat<D>, n: u32) -> RingWord
+        requires table { seat.old.table_id ≡ self.now.table.shared.table_id }
+        requires rest { Rests seat.old.me }
+        requires batch { IsBatch n }
+        ensures same { (seat.new.table_id ≡ seat.old.table_id) × (seat.new.id ≡ seat.old.id) }
+        ensures rest { Rests seat.new.me }
+        ensures within { IsWithin self.now.size result }
+        ensures refused { space self.now.size result ≤ n → Made self.now.size seat.old.me.0.known (entry seat.old.me.0.known.number (pack result) (step.Refuse n)) seat.new.me.0.known }
+        ensures looked { n < space self.now.size result → Made self.now.size seat.old.me.0.known (entry seat.old.me.0.known.number (pack result) step.Look) seat.new.me.0.known }
+    {
+        let said = Place::Told(n as u64);
+        let word = self
+            .table
+            .shared
+            .compare_exchange_with::<Refuse>(seat, 0, u64::MAX, 0, &said);
+        read(self.size, word)
+    }
+
+    /// Looks at the word, and again, for some time, while some seat is about to publish.
+    pub fn look_for_quiet(&self, seat: &mut BareSeat<D>) -> RingWord
+        requires table { seat.old.table_id ≡ self.now.table.shared.table_id }
+        requires rest { Rests seat.old.me }
+        ensures same { (seat.new.table_id ≡ seat.old.table_id) × (seat.new.id ≡ seat.old.id) }
+        ensures rest { Rests seat.new.me }
+        ensures within { IsWithin self.now.size result }
+        ensures trail { (es : _) × AreLooks es × Trails self.now.size seat.old.me.0.known es nothing_counted seat.new.me.0.known }
+    {
+        let mut seen = self.look(seat);
+        for _ in 0..LOOKS {
+            if seen.head == seen.tail {
+                return seen;
+            }
+            yield_now();
+            seen = self.look(seat);
+        }
+        seen
+    }
+
+    /// A word with room for `n` items: the one that was seen, or one that is found now. At `Err` that one has
+    /// none, and the seat is refused.
+    pub fn find_room(
+        &self,
+        seat: &mut BareSeat<D>,
+        seen: RingWord,
+        n: u32,
+    ) -> Result<RingWord, RingWord>
+        requires table { seat.old.table_id ≡ self.now.table.shared.table_id }
+        requires rest { Rests seat.old.me }
+        requires lived { IsLived self.now.size seat.old.me.0.known }
+        requires batch { IsBatch n }
+        requires within { IsWithin self.now.size seen }
+        ensures same { (seat.new.table_id ≡ seat.old.table_id) × (seat.new.id ≡ seat.old.id) }
+        ensures rest { Rests seat.new.me }
+        ensures ok { IfOk result (λ w. IsWithin self.now.size w × (n < space self.now.size w) × ((es : _) × AreLooks es × Trails self.now.size seat.old.me.0.known es nothing_counted seat.new.me.0.known)) }
+        ensures err { IfErr result (λ w. (space self.now.size w ≤ n) × ((e : Entry) × Finds (step.Refuse n) w e × Trails self.now.size seat.old.me.0.known (e ∷ []) (record nothing_counted { drops = n }) seat.new.me.0.known)) }
+    {
+        if n < space(self.size, &seen) {
+            return Ok(seen);
+        }
+        let found = self.refuse(seat, n);
+        if n < space(self.size, &found) {
+            Ok(found)
+        } else {
+            Err(found)
+        }
+    }
+
+    /// Reserves `n` places, from the place on that is answered. At `Err` the word had no room for them.
+    pub fn claim<R: Wait>(&self, rt: &R, seat: &mut BareSeat<D>, n: u32) -> Result<u16, RingWord>
+        requires table { seat.old.table_id ≡ self.now.table.shared.table_id }
+        requires rest { Rests seat.old.me }
+        requires batch { IsBatch n }
+        ensures same { (seat.new.table_id ≡ seat.old.table_id) × (seat.new.id ≡ seat.old.id) }
+        ensures ok { IfOk result (λ place. (place < self.now.size) × (n < self.now.size) × HasPlaces self.now.size n place seat.new.me × ((es : _) × (publishing es ≡ []) × Trails self.now.size seat.old.me.0.known es nothing_counted seat.new.me.0.known)) }
+        ensures err { IfErr result (λ seen. Rests seat.new.me × (space self.now.size seen ≤ n) × ((es : _) × (publishing es ≡ []) × IsRefused n seen es × Trails self.now.size seat.old.me.0.known es (record nothing_counted { drops = n }) seat.new.me.0.known)) }
+    {
+        let mut seen = self.look_for_quiet(seat);
+        for _ in rt.forever() {
+            let roomy = match self.find_room(seat, seen, n) {
+                Ok(roomy) => roomy,
+                Err(full) => return Err(full),
+            };
+            match self.reserve(seat, &roomy, n) {
+                Ok(()) => return Ok(roomy.head),
+                Err(found) => seen = read(self.size, found),
+            }
+        }
+        unreachable!()
+    }
+}
