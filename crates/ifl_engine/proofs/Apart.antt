@@ -18,7 +18,7 @@ use Rattle.ifl_conf.specs.Served.{is_form_served}
 use Rattle.ifl_conf.specs.Clashes.{names_clash, is_value, is_read, clashes}
 use Rattle.ifl_conf.specs.Reading.{Reading, no_command, unknown_command, refused, names, asks, reading_of, command_reading, reading}
 use Rattle.ifl_conf.specs.Commands.{ShowsSend, Answers, IsServed}
-use Rattle.ifl_engine.specs.Words.{Named, Asked, send, trace, asked, asked_of, named, or_empty, first_name}
+use Rattle.ifl_engine.specs.Words.{Named, Asked, send, trace, asked, asked_of, named, first_name}
 use Rattle.ifl_engine.specs.Read.{names_of, GivesWords, IsApart}
 
 -- ---- what was read is what is asked for

@@ -1,5 +1,5 @@
 -- What the files of `send` are seen as.
-use Rattle.std.specs.Prelude.{ℕ, List, [], ◌∷◌, option_map}
+use Rattle.std.specs.Prelude.{[], ◌∷◌, option_map}
 use Rattle.ifl_engine.specs.declared.reading.Files.{Files}
 use Rattle.ifl_engine.specs.declared.reading.Load.{Load}
 use Rattle.ifl_engine.specs.Wanted.{Bytes, Load as Loaded}

@@ -19,17 +19,17 @@ const TEXTS: [(&str, u8, &str); 10] = [
         2,
         "settings: adapter.descriptors\n",
     ),
-    ("version", 2, "settings: text\n"),
-    ("[wheel]\n", 2, "settings: unknown\n"),
-    ("version = 2\n[ring]\nsize = 3\n", 2, "settings: version\n"),
-    ("[ring]\nsize = 3\n", 2, "settings: ring.size\n"),
-    ("[ring]\nabdicate = true\n", 2, "settings: ring.abdicate\n"),
+    ("[rings]\n", 2, "settings: unknown\n"),
+    ("[ring]\nsize = 3\n[rings]\n", 2, "settings: unknown\n"),
+    ("version = 7\n", 2, "settings: version\n"),
+    ("[ring]\nsize = 2048.0\n", 2, "settings: ring.size\n"),
     (
-        "[frames]\nmax_frame = 14.5\n",
+        "[adapter]\nstart = \"after_senders\"\n",
         2,
-        "settings: frames.max_frame\n",
+        "settings: adapter.start\n",
     ),
-    ("[pool]\nclusters = 1\n", 2, "settings: pool.clusters\n"),
+    ("[pool]\nseg_bytes = 64\n", 2, "settings: pool.seg_bytes\n"),
+    ("[pool]\nclusters = 31\n", 2, "settings: pool.clusters\n"),
 ];
 
 #[test]
@@ -43,6 +43,20 @@ fn a_settings_text_is_read_or_its_first_fault_is_told(rt: HostRuntime) -> Result
         assert_eq!(rt; host.printed() == line.as_bytes(), status == 2, "{text}");
         assert_eq!(rt; held(host.files(), "w").is_some(), status == 0, "{text}");
     }
+    Ok(())
+}
+
+#[test]
+fn a_settings_file_that_is_no_text_is_refused(rt: HostRuntime) -> Result<(), Fail> {
+    let alloc = rt.alloc();
+    let words = words_of(alloc, "send --settings=s --wire w --order o f")?;
+    let mut files = two_files(alloc, &[60], "")?;
+    if let Some(file) = files.get_mut(1) {
+        file.bytes.push(0xff)?;
+    }
+    let mut host = MemoryHost::new(alloc, files, Vec::new(alloc))?;
+    assert_eq!(rt; run(&rt, alloc, &words, &mut host, &FreeGate).status, 2);
+    assert_eq!(rt; host.printed(), b"settings: text\n".as_slice());
     Ok(())
 }
 

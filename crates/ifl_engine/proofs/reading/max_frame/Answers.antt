@@ -1,6 +1,5 @@
-use Rattle.std.proofs.Common.{ap, List, ℕ}
+use Rattle.std.proofs.Common.{ap}
 use Rattle.std.specs.Prelude.{option_map}
-use Rattle.std.specs.Global.{Vec}
 use Rattle.ifl_conf.specs.declared.keys.KeyName.TheVariants.{FramesMaxFrame}
 use Rattle.ifl_engine.proofs.ReadLaws.{bytes_of}
 use Rattle.ifl_engine.proofs.Loading.{max_frame_in-standard, max_frame_in-set, max_frame_in-refused}
