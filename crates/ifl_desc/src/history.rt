@@ -2,8 +2,11 @@
 use crate::Desc;
 use std::collections::LinkedList;
 
+/// A side of a ring.
 pub enum Side {
+    /// It posts and reclaims.
     Driver,
+    /// It takes and completes.
     Device,
 }
 
@@ -13,17 +16,24 @@ pub enum Event {
     Looked(Side, u64),
 }
 
+/// What a seat of the ring's table is for.
 pub enum Role {
+    /// Of a new ring, all of whose slots are at home.
     Whole,
+    /// It has taken all slots out.
     Full,
+    /// The end of this side.
     End(Side),
+    /// It carries to the other end what this one had seen.
     Note,
     /// The driver's seat, joined by the device's, which had seen this.
     Closing(LinkedList<Event>),
 }
 
+/// What the rule of the ring's table knows of a seat.
 pub struct View {
     pub role: Role,
+    /// The beginning of the history that it has seen.
     pub seen: LinkedList<Event>,
     /// What another seat had seen that was joined to this one.
     pub heard: LinkedList<Event>,
@@ -36,6 +46,7 @@ pub trait IsSide {
     ghost side: { Which };
 }
 
+/// The driver's side.
 pub struct OfDriver;
 
 impl IsSide for OfDriver {
@@ -44,6 +55,7 @@ impl IsSide for OfDriver {
     ghost side = { Driver };
 }
 
+/// The device's side.
 pub struct OfDevice;
 
 impl IsSide for OfDevice {

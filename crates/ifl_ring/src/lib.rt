@@ -1,4 +1,13 @@
-//! A lock-free ring for many producers, whose whole state is one word.
+//! A lock-free ring for many producers, whose whole state is one 64-bit word.
+//!
+//! A seat that publishes and finds no consumer becomes the consumer, and drains into the ring's [`Drainer`]. It stands
+//! on `atomic_table` for the word and the slots, on `ifl_base` for words, on `ifl_ringcore` for what a legal history
+//! is, on `ifl_outside` for the gate and on `crossbeam_utils` for waiting. Its one contract: the steps on the word form
+//! one legal history, of which each seat has seen a beginning with all of its own steps, and the answer of each call is
+//! what its own steps found.
+//!
+//! `specs/` reads in this order: `Law` (the rule: who owns which slot, what a seat knows), `Tells` and `Acts` (single
+//! steps), `Calls` (the answers), `Tally` (the counts), `Rings` and `Closed` (what contracts see).
 #![tactic(auto)]
 
 mod answers;

@@ -8,18 +8,21 @@ use crate::view::View;
 use atomic_table::{Join, Play, Split};
 use std::marker::PhantomData;
 
+/// A look at the word.
 pub struct See;
 
 impl<I, D, O> Play<Place<I, D>, View<O>> for See {
     ghost then = { looked };
 }
 
+/// The head is moved over places that are reserved.
 pub struct Reserve;
 
 impl<I, D, O> Play<Place<I, D>, View<O>> for Reserve {
     ghost then = { reserved };
 }
 
+/// Items are published behind a consumer.
 pub struct Publish<D> {
     drainer: PhantomData<D>,
 }
@@ -28,6 +31,7 @@ impl<D: Drainer> Play<Place<D::Item, D>, View<D::Origin>> for Publish<D> {
     ghost then = { joined D.Item.meaning };
 }
 
+/// Items are published, and the seat is the consumer.
 pub struct Elect<D> {
     drainer: PhantomData<D>,
 }
@@ -36,18 +40,21 @@ impl<D: Drainer> Play<Place<D::Item, D>, View<D::Origin>> for Elect<D> {
     ghost then = { drains D.Item.meaning D.origin D.settled D.full D.stands_for };
 }
 
+/// The first look of a new seat, which tells its number.
 pub struct Name;
 
 impl<I, D, O> Play<Place<I, D>, View<O>> for Name {
     ghost then = { christened };
 }
 
+/// The look after a join, which tells that both histories begin one.
 pub struct Meet;
 
 impl<I, D, O> Play<Place<I, D>, View<O>> for Meet {
     ghost then = { met };
 }
 
+/// A seat is cut in two.
 pub struct Cut;
 
 impl<O> Split<View<O>> for Cut {
@@ -56,6 +63,7 @@ impl<O> Split<View<O>> for Cut {
     ghost right = { cut_right };
 }
 
+/// Two seats become one.
 pub struct Glue;
 
 impl<O> Join<View<O>> for Glue {
@@ -64,12 +72,14 @@ impl<O> Join<View<O>> for Glue {
     ghost spent = { gone };
 }
 
+/// A consumer leaves, and the drainer goes home.
 pub struct Leave;
 
 impl<I, D, O> Play<Place<I, D>, View<O>> for Leave {
     ghost then = { left };
 }
 
+/// A consumer shows how far it has come, and goes on.
 pub struct GoOn<D> {
     drainer: PhantomData<D>,
 }
@@ -78,6 +88,7 @@ impl<D: Drainer> Play<Place<D::Item, D>, View<D::Origin>> for GoOn<D> {
     ghost then = { went_forth D.Item.meaning D.origin D.settled D.full D.stands_for };
 }
 
+/// A seat becomes the consumer of what was left.
 pub struct TakeOver<D> {
     drainer: PhantomData<D>,
 }
@@ -86,12 +97,14 @@ impl<D: Drainer> Play<Place<D::Item, D>, View<D::Origin>> for TakeOver<D> {
     ghost then = { took_over D.Item.meaning D.origin D.settled D.full D.stands_for };
 }
 
+/// An exchange that always fails: a refusal where there is no room, and else a look.
 pub struct Refuse;
 
 impl<I, D, O> Play<Place<I, D>, View<O>> for Refuse {
     ghost then = { refused };
 }
 
+/// Items are published and left to another consumer.
 pub struct Abdicate<D> {
     drainer: PhantomData<D>,
 }

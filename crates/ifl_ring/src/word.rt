@@ -7,6 +7,7 @@ ghost use Rattle.ifl_ring.specs.Draining.{FlagAfter};
 
 use ifl_base::{Flag, RingWord, advance, flag_after};
 
+/// Whether there is a consumer.
 pub fn is_busy(flag: Flag) -> bool
     ensures yes { result ≡ true → flag ≡ Flag.Busy }
     ensures no { result ≡ false → flag ≢ Flag.Busy }
@@ -79,6 +80,10 @@ pub fn risen(flag: Flag) -> Flag
     }
 }
 
-pub fn is_stalled(flag: Flag) -> bool {
+/// Whether the drainer could take no more.
+pub fn is_stalled(flag: Flag) -> bool
+    ensures yes { result ≡ true → flag ≡ Flag.Stalled }
+    ensures no { result ≡ false → flag ≢ Flag.Stalled }
+{
     matches!(flag, Flag::Stalled)
 }

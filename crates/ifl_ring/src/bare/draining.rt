@@ -47,7 +47,7 @@ pub struct Done {
     left: u32,
 }
 
-// Whether a round goes on after a batch.
+/// Whether a round goes on after a batch.
 pub fn goes_on(k: u32, more: u64, count: u32, total: u64, budget: u32) -> bool
     ensures yes { result ≡ true → (1 ≤ k) × (1 ≤ more) × (count < 64) × (total < budget) }
     ensures no { result ≡ false → (k ≡ 0) ⊎ (more ≡ 0) ⊎ (64 ≤ count) ⊎ (budget ≤ total) }
@@ -55,6 +55,7 @@ pub fn goes_on(k: u32, more: u64, count: u32, total: u64, budget: u32) -> bool
     k > 0 && more > 0 && count < 64 && total < budget as u64
 }
 
+/// Whether nothing was consumed.
 pub fn is_none(k: u32) -> bool
     ensures yes { result ≡ true → k ≡ 0 }
     ensures no { result ≡ false → 1 ≤ k }
@@ -62,6 +63,7 @@ pub fn is_none(k: u32) -> bool
     k == 0
 }
 
+/// Whether the total has come to the budget.
 pub fn has_reached(total: u64, budget: u32) -> bool
     ensures yes { result ≡ true → budget ≤ total }
     ensures no { result ≡ false → total < budget }
