@@ -2,6 +2,8 @@ ghost use Rattle.std.specs.Prelude.{true, ◌≡◌, ◌≤◌, [], drop, length
 ghost use Rattle.std.specs.VecDeque.{deque_capacity};
 ghost use Rattle.ifl_ringcore.specs.declared.history.Meaning.{Meaning};
 
+mod sending;
+
 use super::{Checked, Drainer, Enqueued, Ring, RingFault, RingItem, Seat};
 use ifl_base::{Flag, NoMemory, RingWord};
 use ifl_outside::FreeGate;
@@ -10,7 +12,6 @@ use std::alloc::Global;
 use std::collections::VecDeque;
 use std::sync::Wait;
 use std::test::*;
-use std::thread::{Threads, join};
 
 // An item that is a number.
 #[derive(Drop)]
@@ -232,71 +233,6 @@ fn size_of_three_is_refused(rt: HostRuntime) -> Result<(), Fail> {
             assert_eq!(rt; fault, RingFault::BadSize(3));
         }
     }
-    Ok(())
-}
-
-// A thread enqueues a thousand items, each as soon as the ring has room for it.
-fn send<R: Wait>(rt: &R, alloc: Global, ring: &Ring<Taker>, seat: Seat<Taker>) -> Seat<Taker>
-    requires { seat.table ≡ ring.now.table }
-    ensures { result.table ≡ seat.table }
-{
-    let mut seat = seat;
-    for tag in 0..1_000_u64 {
-        send_one(rt, alloc, ring, &mut seat, tag);
-    }
-    seat
-}
-
-fn send_one<R: Wait>(rt: &R, alloc: Global, ring: &Ring<Taker>, seat: &mut Seat<Taker>, tag: u64)
-    requires { seat.old.table ≡ ring.now.table }
-    ensures { seat.new.table ≡ seat.old.table }
-{
-    for _ in rt.forever() {
-        match enqueue(rt, alloc, ring, seat, tag, false) {
-            Ok(Enqueued::NoBuffers { .. }) => {}
-            Ok(_) => return,
-            Err(NoMemory) => return,
-        }
-    }
-}
-
-// Two threads send.
-fn send_both<R: Threads + Wait + Sync>(
-    rt: &R,
-    alloc: Global,
-    ring: &Ring<Taker>,
-    first: Seat<Taker>,
-    second: Seat<Taker>,
-) -> (Seat<Taker>, Seat<Taker>)
-    requires { (first.table ≡ ring.now.table) × (second.table ≡ ring.now.table) }
-    ensures { (result.0.table ≡ ring.now.table) × (result.1.table ≡ ring.now.table) }
-{
-    join(
-        rt,
-        || -> Seat<Taker>
-            requires { first.table ≡ ring.now.table }
-            ensures { result.table ≡ ring.entry.now.table }
-        { send(rt, alloc, ring, first) },
-        || -> Seat<Taker>
-            requires { second.table ≡ ring.now.table }
-            ensures { result.table ≡ ring.entry.now.table }
-        { send(rt, alloc, ring, second) },
-    )
-}
-
-#[test]
-fn two_threads_send(rt: HostRuntime) -> Result<(), Fail> {
-    let alloc = rt.alloc();
-    let Ok((ring, mut seat)) = Ring::new(alloc, 4, Taker::takes_all()) else {
-        panic!(rt; "no ring was made")
-    };
-    let other = ring.split(&mut seat);
-    assert_eq!(rt; (seat.part(), other.part()), (524_288, 524_288));
-    let (mut seat, other) = send_both(&rt, alloc, &ring, seat, other);
-    ring.join(&mut seat, other);
-    assert_eq!(rt; seat.part(), 1_048_576);
-    assert_eq!(rt; seat.tally().enqueues, 2_000);
-    assert_eq!(rt; ring.look(&mut seat), word(0, 0, 0, Flag::Idle));
     Ok(())
 }
 
