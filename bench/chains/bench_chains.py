@@ -17,34 +17,17 @@ Standard library only; no part of the gate.
 
 import os
 import resource
-import shutil
 import statistics
 import subprocess
 import sys
 import tempfile
 
 HERE = os.path.dirname(os.path.abspath(__file__))
-TOP = os.path.dirname(os.path.dirname(HERE))
+sys.path.insert(0, os.path.dirname(HERE))
+import workspace
+
 LAYERS = ("ifl_base", "ifl_mbuf", "ifl_pool")
-LINE = "bench_chains: crossbeam_queue crossbeam_utils atomic_table std_alloc core std_heap ifl_base ifl_mbuf ifl_pool\n"
-
-
-def workspace(folder):
-    """The crates below, and the program over them."""
-    for layer in LAYERS:
-        shutil.copytree(os.path.join(TOP, "crates", layer), os.path.join(folder, "crates", layer),
-                        ignore=shutil.ignore_patterns("out", "must-fail"))
-    shutil.copy(os.path.join(TOP, "HANDLES"), folder)
-    with open(os.path.join(TOP, "crates.txt")) as lines:
-        kept = [line for line in lines if line.split(":")[0] in LAYERS]
-    with open(os.path.join(folder, "crates.txt"), "w") as out:
-        out.writelines(kept + [LINE])
-    crate = os.path.join(folder, "crates", "bench_chains")
-    os.makedirs(os.path.join(crate, "src"))
-    os.makedirs(os.path.join(crate, "proofs", "pool"))
-    shutil.copy(os.path.join(HERE, "main.rt.txt"), os.path.join(crate, "src", "main.rt"))
-    shutil.copy(os.path.join(HERE, "pool-Invariants.antt.txt"), os.path.join(crate, "proofs", "pool", "Invariants.antt"))
-    return crate
+STANDS_ON = "crossbeam_queue crossbeam_utils atomic_table std_alloc core std_heap ifl_base ifl_mbuf ifl_pool"
 
 
 def user_time(command):
@@ -57,12 +40,10 @@ def main():
     count = int(sys.argv[1]) if len(sys.argv) > 1 else 20_000_000
     rounds = int(sys.argv[2]) if len(sys.argv) > 2 else 5
     with tempfile.TemporaryDirectory() as folder:
-        crate = workspace(folder)
-        subprocess.run(["rt", "run", "--", "packets", "1"], cwd=crate, check=True, stdout=subprocess.DEVNULL)
-        plain = os.path.join(folder, "plain")
-        subprocess.run(["rustc", "-A", "dead_code", "-O", "-C", "target-cpu=x86-64-v2", "-o", plain,
-                        os.path.join(HERE, "main.rs")], check=True)
-        built = os.path.join(crate, "out", "bench_chains")
+        crate = workspace.make(folder, LAYERS, "bench_chains", STANDS_ON, os.path.join(HERE, "main.rt.txt"),
+                               {"pool/Invariants.antt": os.path.join(HERE, "pool-Invariants.antt.txt")})
+        built = workspace.build(crate, ["packets", "1"])
+        plain = workspace.build_plain(os.path.join(HERE, "main.rs"), os.path.join(folder, "plain"))
         loops = {"packets": [built, "packets"], "Rust": [plain], "pool": [built, "pool"], "queue": [built, "queue"]}
         times = {name: [] for name in loops}
         for _ in range(rounds):

@@ -13,7 +13,6 @@ Standard library only; no part of the gate.
 """
 
 import os
-import shutil
 import statistics
 import subprocess
 import sys
@@ -21,30 +20,16 @@ import tempfile
 import time
 
 HERE = os.path.dirname(os.path.abspath(__file__))
-TOP = os.path.dirname(os.path.dirname(HERE))
+sys.path.insert(0, os.path.dirname(HERE))
+import workspace
+
 LAYERS = ("ifl_base", "ifl_outside", "ifl_ringcore", "ifl_ring")
-LINE = "bench_ring: core atomic_table crossbeam_utils ifl_base ifl_outside ifl_ringcore ifl_ring\n"
-INVARIANTS = ("Counter-take", "put", "send")
-
-
-def workspace(folder):
-    """The crates below, and the program over them."""
-    for layer in LAYERS:
-        shutil.copytree(os.path.join(TOP, "crates", layer), os.path.join(folder, "crates", layer),
-                        ignore=shutil.ignore_patterns("out", "must-fail"))
-    shutil.copy(os.path.join(TOP, "HANDLES"), folder)
-    with open(os.path.join(TOP, "crates.txt")) as lines:
-        kept = [line for line in lines if line.split(":")[0] in LAYERS]
-    with open(os.path.join(folder, "crates.txt"), "w") as out:
-        out.writelines(kept + [LINE])
-    crate = os.path.join(folder, "crates", "bench_ring")
-    os.makedirs(os.path.join(crate, "src"))
-    shutil.copy(os.path.join(HERE, "main.rt.txt"), os.path.join(crate, "src", "main.rt"))
-    for name in INVARIANTS:
-        proofs = os.path.join(crate, "proofs", *name.split("-"))
-        os.makedirs(proofs)
-        shutil.copy(os.path.join(HERE, f"{name}-Invariants.antt.txt"), os.path.join(proofs, "Invariants.antt"))
-    return crate
+STANDS_ON = "core atomic_table crossbeam_utils ifl_base ifl_outside ifl_ringcore ifl_ring"
+PROOFS = {
+    "Counter/take/Invariants.antt": "Counter-take-Invariants.antt.txt",
+    "put/Invariants.antt": "put-Invariants.antt.txt",
+    "send/Invariants.antt": "send-Invariants.antt.txt",
+}
 
 
 def seconds(command):
@@ -57,11 +42,10 @@ def main():
     count = int(sys.argv[1]) if len(sys.argv) > 1 else 2_000_000
     rounds = int(sys.argv[2]) if len(sys.argv) > 2 else 5
     with tempfile.TemporaryDirectory() as folder:
-        crate = workspace(folder)
-        subprocess.run(["rt", "run", "--", "1", "1000"], cwd=crate, check=True, stdout=subprocess.DEVNULL)
-        plain = os.path.join(folder, "plain")
-        subprocess.run(["rustc", "-O", "-C", "target-cpu=x86-64-v2", "-o", plain, os.path.join(HERE, "main.rs")], check=True)
-        ring = os.path.join(crate, "out", "bench_ring")
+        proofs = {place: os.path.join(HERE, file) for place, file in PROOFS.items()}
+        crate = workspace.make(folder, LAYERS, "bench_ring", STANDS_ON, os.path.join(HERE, "main.rt.txt"), proofs)
+        ring = workspace.build(crate, ["1", "1000"])
+        plain = workspace.build_plain(os.path.join(HERE, "main.rs"), os.path.join(folder, "plain"))
         for producers in (1, 2, 4, 8):
             ours, theirs = [], []
             for _ in range(rounds):
