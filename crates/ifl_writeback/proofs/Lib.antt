@@ -1,2 +1,3 @@
 pub mod WordSteps
 mod Counts
+mod Posting

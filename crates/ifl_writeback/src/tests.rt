@@ -1,5 +1,7 @@
 ghost use Rattle.std.specs.Prelude.{◌≡◌};
 
+mod threads;
+
 use super::*;
 use ifl_base::{Stamp, Ticket};
 use ifl_desc::{Desc, DescFault, DescRing, Status};
