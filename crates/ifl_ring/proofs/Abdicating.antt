@@ -1,45 +1,37 @@
 -- The step that publishes and leaves the drain to others.
-use Rattle.std.proofs.Common.{Bool, true, false, eqb, ◌≡◌, ◌≢◌, ℕ, ◌+◌, ◌-◌, ◌%◌, ◌<◌, ◌≤◌, List, [], ◌∷◌, ◌++◌, length, map, take, drop, set, get_or, sym, refl, ap, ◌∙◌, subst, inl, inr, ◌⊎◌, ⊎_elim, arith, mod-lt, le_refl, lt_of_not-le, length-append, append-nil, zero, suc}
-use mathlib.Core.Logic.{dite}
-use native.Mathlib.Decide.{dec_le}
+use Rattle.std.proofs.Common.{eqb, ◌≡◌, ℕ, ◌+◌, ◌-◌, ◌%◌, ◌≤◌, List, [], ◌∷◌, ◌++◌, length, map, take, get_or, sym, refl, ap, ◌∙◌, subst}
 use Rattle.std.specs.Prelude.{Option, Some, None}
 use mathlib.Core.Option.{some, none, some-ne-none}
 use mathlib.Core.Option as maybe
 use lib.ListN.{get_elem?}
 use prog.Atomic.{either}
 use Rattle.std.proofs.Math.Nat.{mod-add-mod}
-use Rattle.std.proofs.lemmas.List.{take-append-le}
-use Rattle.atomic_table.specs.Table.{State, Me, Step as TableStep, step, Allows, Act, Valid, stepped, carried_after, homes_after}
-use Rattle.atomic_table.proofs.Lists.{exchanged, at_longer, at_map, one_turn}
+use Rattle.atomic_table.specs.Table.{State, Me, Step as TableStep, step, Allows, Valid, stepped, carried_after, homes_after}
+use Rattle.atomic_table.proofs.Lists.{exchanged}
 use Rattle.ifl_base.specs.declared.word.Flag.{Flag}
 use Rattle.ifl_base.specs.declared.word.Flag.TheVariants.{Idle, Busy, Stalled, Abdicated}
 use Rattle.ifl_ringcore.specs.declared.history.Meaning.{Meaning}
 use Rattle.ifl_ringcore.specs.declared.history.Entry.{Entry}
-use Rattle.ifl_ringcore.specs.declared.history.Step.TheVariants.{Look, Reserve, Behind, Abdicating}
-use Rattle.ifl_ring.specs.declared.view.Known.{Known}
+use Rattle.ifl_ringcore.specs.declared.history.Step.TheVariants.{Behind, Abdicating}
 use Rattle.ifl_ring.specs.declared.view.View.{View}
 use Rattle.ifl_base.specs.declared.word.RingWord.{RingWord}
 use Rattle.ifl_ring.specs.declared.place.Place.{Place}
-use Rattle.ifl_ring.specs.declared.place.Place.TheVariants.{Item, Told}
 use Rattle.ifl_ring.specs.declared.place.Key.{Key}
-use Rattle.ifl_ringcore.specs.State.{RingState, Consumer, Role, reservation, reservation_of, without, role_of, free, first_state, ring_word}
-use Rattle.ifl_ringcore.specs.Invariant.{Tends, RingInvariant, reach, reach_of}
+use Rattle.ifl_ringcore.specs.State.{RingState, Consumer, reservation, role_of, free, first_state, ring_word}
 use Rattle.ifl_ringcore.specs.Effects.{risen, effect}
 use Rattle.ifl_ringcore.specs.History.{state_after}
 use Rattle.ifl_ringcore.specs.Conditions.{IsAllowed}
 use Rattle.ifl_base.specs.Word.{pack}
-use Rattle.ifl_base.specs.Space.{space, advanced}
+use Rattle.ifl_base.specs.Space.{advanced}
 use Rattle.ifl_base.specs.Word.{IsWithin}
 use Rattle.ifl_ring.specs.Acts.{give_all, laid, items_in}
-use Rattle.ifl_ring.specs.Law.{Has, saw, moved, Posted, Shelf, Lawful, IsAtRest}
-use Rattle.ifl_ring.specs.Tells.{entry, Made, Same, Abdicates, told, looked, abdicated}
-use Rattle.ifl_ringcore.proofs.Reservations.{cover_le, reservation_of-within}
+use Rattle.ifl_ring.specs.Law.{Has, moved, Posted, Shelf, Lawful}
+use Rattle.ifl_ring.specs.Tells.{entry, Abdicates, abdicated}
 use Rattle.ifl_ringcore.proofs.Histories.{state_after-append}
 use Rattle.ifl_ringcore.proofs.Keeping.{cover-without}
-use Rattle.ifl_ring.proofs.Slots.{apart}
-use Rattle.ifl_ring.proofs.Laid.{gave_carried, gave_valid, gave_long, gave_else, gave_here, laid_items}
+use Rattle.ifl_ring.proofs.Laid.{gave_carried, gave_valid, laid_items}
 use Rattle.ifl_ring.proofs.Steps.{steps, size_is, made_now, Goes, word_of, look_at}
-use Rattle.ifl_ring.proofs.Reserving.{reach_le, le_reach, word_is}
+use Rattle.ifl_ring.proofs.Reserving.{word_is}
 use Rattle.ifl_ring.proofs.Publishing.{length_map, at_turn, shelf_give}
 
 still_stalled : (f : Flag) → risen f ≡ Stalled → f ≡ Stalled

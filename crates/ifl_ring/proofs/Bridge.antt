@@ -1,30 +1,29 @@
 -- What the steps tell, in the ring's own size.
 use Rattle.std.proofs.Common.{◌≡◌, ◌≢◌, ℕ, ◌+◌, ◌-◌, ◌<◌, ◌≤◌, List, [], ◌∷◌, sym, refl, ap, ◌∙◌, subst, arith}
 use mathlib.Core.Option.{some, none}
-use Rattle.atomic_table.specs.Table.{Me, Step as TableStep, step}
+use Rattle.atomic_table.specs.Table.{Me, step}
 use Rattle.ifl_ring.specs.declared.view.Known.{Known}
 use Rattle.ifl_ring.specs.declared.view.View.{View}
 use Rattle.ifl_ring.specs.declared.place.Place.{Place}
 use Rattle.ifl_ring.specs.declared.place.Place.TheVariants.{Item, Told, Parting}
 use Rattle.ifl_base.specs.declared.word.Flag.{Flag}
 use Rattle.std.proofs.Common.{◌++◌, map}
-use Rattle.std.specs.Prelude.{Option, Some, None}
+use Rattle.std.specs.Prelude.{Some, None}
 use Rattle.ifl_ringcore.specs.declared.history.Meaning.{Meaning}
 use Rattle.ifl_ringcore.specs.declared.history.Entry.{Entry}
 use Rattle.ifl_ringcore.specs.declared.history.Step.TheVariants.{Look}
-use Rattle.ifl_ringcore.specs.State.{RingState, reservation, role_of, first_state}
+use Rattle.ifl_ringcore.specs.State.{reservation, role_of, first_state}
 use Rattle.ifl_ringcore.specs.History.{state_after}
 use Rattle.ifl_ring.specs.Law.{Has}
 use Rattle.ifl_ringcore.proofs.Histories.{state_after-append}
 use Rattle.std.proofs.Common.{◌%◌}
 use Rattle.ifl_base.specs.declared.word.RingWord.{RingWord}
 use Rattle.ifl_base.specs.Word.{pack}
-use Rattle.ifl_ringcore.specs.State.{ring_word}
 use Rattle.ifl_base.specs.Word.{IsWithin}
 use Rattle.ifl_ring.specs.Tells.{Abdicates, abdicated, HoldsAt}
 use Rattle.ifl_ring.proofs.Reserving.{word_is}
 use Rattle.ifl_ring.specs.Acts.{out_all, items_in}
-use Rattle.ifl_ring.specs.Tells.{entry, Looks, Reserves, Behinds, Same, nothing, place_of, looked, reserved, joined, drains, Electing, Handed, Holding, HasTurn, Leaves, Advances, left, went_forth, took_over, TakesOver}
+use Rattle.ifl_ring.specs.Tells.{entry, Looks, Reserves, Behinds, Same, nothing, place_of, looked, reserved, joined, drains, Electing, Handed, Holding, Leaves, Advances, left, went_forth, took_over, TakesOver}
 
 pub sized : (slots size : ℕ) → slots ≡ size + 1 → slots - 1 ≡ size
 sized slots size e = omega arith

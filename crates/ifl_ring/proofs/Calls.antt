@@ -1,13 +1,11 @@
 -- What several steps of one call do together.
-use Rattle.std.proofs.Common.{Bool, true, false, eqb, cond, ◌||◌, ◌≡◌, ◌≢◌, ℕ, List, [], ◌∷◌, ◌++◌, append_assoc, append-nil, sym, refl, ap, ◌∙◌, subst, eq-eqb, ne_eqb}
+use Rattle.std.proofs.Common.{Bool, true, false, cond, ◌≡◌, ℕ, List, [], ◌∷◌, ◌++◌, append_assoc, append-nil, sym, refl, ap, ◌∙◌, subst, eq-eqb, ne_eqb}
 use mathlib.Core.Logic.{dite}
 use native.Mathlib.Decide.{ℕ_discrete}
 use Rattle.ifl_ringcore.specs.declared.history.Entry.{Entry}
 use Rattle.ifl_ring.specs.declared.view.Known.{Known}
-use Rattle.ifl_ringcore.specs.History.{own, state_after}
-use Rattle.ifl_ringcore.specs.State.{first_state}
-use Rattle.ifl_ring.specs.Law.{has, Has, saw, Begins}
-use Rattle.std.specs.Prelude.{◌⊎◌}
+use Rattle.ifl_ringcore.specs.History.{own}
+use Rattle.ifl_ring.specs.Law.{has, Has, saw}
 use Rattle.std.proofs.Common.{inl, inr}
 use Rattle.ifl_ring.specs.Tells.{Moved, Made, of_all, events, Went}
 use Rattle.ifl_ring.proofs.Closing.{append_none, own_append}

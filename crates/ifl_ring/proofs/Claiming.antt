@@ -1,5 +1,5 @@
 -- What a seat knows as it looks for room.
-use Rattle.std.proofs.Common.{◌≡◌, ℕ, ◌+◌, ◌-◌, ◌<◌, ◌≤◌, Bool, true, false, cond, List, [], ◌∷◌, ◌++◌, sym, refl, ap, ◌∙◌, subst, ⊎_elim, ◌⊎◌, arith}
+use Rattle.std.proofs.Common.{◌≡◌, ℕ, ◌+◌, ◌-◌, ◌<◌, ◌≤◌, true, false, List, [], ◌∷◌, ◌++◌, sym, refl, ap, ◌∙◌, subst, ⊎_elim, arith}
 use mathlib.Core.Option.{some}
 use Rattle.atomic_table.specs.Table.{Me, step}
 use Rattle.ifl_base.specs.declared.word.RingWord.{RingWord}
@@ -9,7 +9,7 @@ use Rattle.ifl_ringcore.specs.declared.history.Entry.{Entry}
 use Rattle.ifl_ringcore.specs.declared.history.Step.{Step}
 use Rattle.ifl_ringcore.specs.declared.history.Step.TheVariants.{Look, Refuse, Advance}
 use Rattle.ifl_ringcore.specs.History.{state_after}
-use Rattle.std.specs.Prelude.{Some, None}
+use Rattle.std.specs.Prelude.{Some}
 use Rattle.ifl_ringcore.specs.State.{first_state, reservation, reservation_of, ring_word, RingState, Role}
 use Rattle.ifl_ringcore.specs.Invariant.{RingInvariant}
 use Rattle.ifl_ringcore.proofs.Reservations.{reservation_of-within}

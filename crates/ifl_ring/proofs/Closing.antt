@@ -1,21 +1,19 @@
 -- What the one whole seat knows of the ring.
-use Rattle.std.proofs.Common.{Bool, true, false, eqb, cond, ◌≡◌, ◌≢◌, ℕ, zero, suc, ◌+◌, ◌<◌, ◌≤◌, List, [], ◌∷◌, ◌++◌, length, sym, refl, ap, ◌∙◌, subst, inl, inr, ◌⊎◌, ⊎_elim, arith, append-nil, eq-eqb, ne_eqb, lt_of_not-le}
+use Rattle.std.proofs.Common.{◌≡◌, ◌≢◌, ℕ, zero, suc, ◌+◌, ◌<◌, ◌≤◌, List, [], ◌∷◌, ◌++◌, length, sym, refl, ap, ◌∙◌, subst, inl, inr, ◌⊎◌, ⊎_elim, arith, append-nil, eq-eqb, ne_eqb, lt_of_not-le}
 use Rattle.std.specs.Prelude.{Option, Some, None}
-use mathlib.Core.Option.{some, none, some-injective, some-ne-none}
-use mathlib.Core.Option as maybe
+use mathlib.Core.Option.{some, some-injective, some-ne-none}
 use mathlib.Core.Logic.{dite}
 use native.Mathlib.Decide.{ℕ_discrete, dec_le}
 use lib.ListN.{get_elem?}
 use Rattle.atomic_table.specs.Table.{State}
 use Rattle.ifl_ringcore.specs.declared.history.Meaning.{Meaning}
 use Rattle.ifl_ringcore.specs.declared.history.Entry.{Entry}
-use Rattle.ifl_ring.specs.declared.view.Known.{Known}
 use Rattle.ifl_ring.specs.declared.view.View.{View}
 use Rattle.ifl_ring.specs.declared.place.Place.{Place}
 use Rattle.ifl_ring.specs.declared.place.Key.{Key}
-use Rattle.ifl_ringcore.specs.State.{Reservation, Consumer, RingState, Role, reservation_of, consumer_of, role_of, free, first_state}
+use Rattle.ifl_ringcore.specs.State.{Reservation, Consumer, Role, reservation_of, consumer_of, role_of, free, first_state}
 use Rattle.ifl_ringcore.specs.History.{state_after, own}
-use Rattle.ifl_ring.specs.Law.{Has, Sits, parts, Lawful, IsAtRest}
+use Rattle.ifl_ring.specs.Law.{Has, parts, Lawful, IsAtRest}
 use Rattle.ifl_ring.proofs.Steps.{bare}
 use Rattle.ifl_ring.proofs.Seats.{part_le}
 use Rattle.ifl_base.specs.declared.limits.TheConstants.{PART}

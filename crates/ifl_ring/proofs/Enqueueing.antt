@@ -1,5 +1,5 @@
 -- What a seat publishes, and what this counts.
-use Rattle.std.proofs.Common.{true, false, ◌≡◌, ◌≢◌, ℕ, ◌<◌, ◌≤◌, List, [], ◌∷◌, ◌++◌, length, map, sym, refl, ap, ◌∙◌, subst, arith}
+use Rattle.std.proofs.Common.{true, false, ◌≡◌, ℕ, ◌<◌, ◌≤◌, List, [], ◌∷◌, ◌++◌, length, map, sym, refl, ap, ◌∙◌, subst, arith}
 use Rattle.atomic_table.specs.Table.{Me}
 use Rattle.ifl_base.specs.declared.word.Flag.{Flag}
 use Rattle.ifl_base.specs.declared.word.RingWord.{RingWord}
@@ -12,20 +12,20 @@ use Rattle.ifl_ringcore.specs.declared.history.Step.{Step}
 use Rattle.ifl_ringcore.proofs.Counting.{same-counters}
 use Rattle.ifl_ring.specs.Calls.{AreHandedOver, AreLooks, IsDelivered, IsEnqueued, publishes, publishing}
 use Rattle.ifl_ring.proofs.Claiming.{publishing-append, publishing-looks}
-use Rattle.ifl_ringcore.specs.Counters.{capped, nothing_counted, rise, one_if, is_idle}
+use Rattle.ifl_ringcore.specs.Counters.{capped, nothing_counted, one_if, is_idle}
 use Rattle.ifl_ringcore.specs.declared.counters.Counters.{Counters}
 use Rattle.ifl_ringcore.specs.declared.history.Entry.{Entry}
 use Rattle.ifl_ringcore.specs.declared.history.Meaning.{Meaning}
 use Rattle.ifl_ringcore.specs.declared.history.Step.TheVariants as step
 use Rattle.ifl_ringcore.specs.History.{state_after}
-use Rattle.ifl_ringcore.specs.State.{first_state, reservation, ring_word, role_of, RingState}
+use Rattle.ifl_ringcore.specs.State.{first_state, reservation, role_of, RingState}
 use Rattle.ifl_ring.specs.declared.place.Place.{Place}
 use Rattle.ifl_ring.specs.declared.published.Published.TheVariants.{Behind, Abdicated, Elected}
 use Rattle.ifl_ring.specs.declared.view.Known.{Known}
 use Rattle.ifl_ring.specs.declared.view.View.{View}
 use Rattle.ifl_ring.specs.Acts.{items_in, laid}
 use Rattle.ifl_ring.specs.Law.{Has}
-use Rattle.ifl_ring.specs.Publishing.{HasPlaces, IsPublished, published_rise}
+use Rattle.ifl_ring.specs.Publishing.{HasPlaces, IsPublished}
 use Rattle.ifl_ring.specs.Tells.{entry, Holding, HoldsAt, Made}
 use Rattle.ifl_ring.specs.Trails.{Trails}
 use Rattle.ifl_ring.proofs.Laid.{laid_items}

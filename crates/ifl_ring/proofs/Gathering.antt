@@ -1,12 +1,12 @@
 -- Items are taken out of the slots one by one.
-use Rattle.std.proofs.Common.{◌≡◌, ℕ, zero, suc, ◌+◌, ◌-◌, ◌%◌, ◌<◌, ◌≤◌, List, [], ◌∷◌, ◌++◌, length, take, drop, append_assoc, append-nil, sym, refl, ap, ◌∙◌, subst, arith}
-use Rattle.std.specs.Prelude.{Option, Some, None}
+use Rattle.std.proofs.Common.{◌≡◌, ℕ, zero, suc, ◌+◌, ◌-◌, ◌%◌, ◌<◌, List, [], ◌∷◌, ◌++◌, length, take, drop, append_assoc, append-nil, sym, refl, ap, ◌∙◌, arith}
+use Rattle.std.specs.Prelude.{Some, None}
 use Rattle.std.proofs.Math.Nat.{mod-add-mod}
 use Rattle.atomic_table.specs.Table.{rest}
 use Rattle.ifl_ring.specs.declared.place.Place.{Place}
 use Rattle.ifl_ring.specs.declared.place.Place.TheVariants.{Item}
 use Rattle.ifl_base.specs.Space.{advanced}
-use Rattle.ifl_ring.specs.Acts.{out_all, laid, IsItemFirst, InFront, Gathered}
+use Rattle.ifl_ring.specs.Acts.{out_all, laid, IsItemFirst, Gathered}
 
 laid_append : {I D : Type 0} (size a : ℕ) (ys : List I) (c d : List (ℕ × Place I D)) → laid size a ys c ++ d ≡ laid size a ys (c ++ d)
 laid_append {D = D} size a [] c d = refl

@@ -1,17 +1,16 @@
 -- A round of the drain: its start, a batch, and the way back into the slots.
-use Rattle.std.proofs.Common.{◌≡◌, ◌≢◌, ℕ, zero, suc, ◌+◌, ◌-◌, ◌%◌, ◌<◌, ◌≤◌, List, [], ◌∷◌, ◌++◌, length, map, take, drop, sym, refl, ap, ◌∙◌, subst, arith, append-nil, append_assoc, length-append, length-drop, mod-lt}
-use Rattle.std.specs.Prelude.{Option, Some, None, option_to_list}
+use Rattle.std.proofs.Common.{◌≡◌, ℕ, zero, suc, ◌+◌, ◌-◌, ◌%◌, ◌≤◌, List, [], ◌∷◌, ◌++◌, length, map, take, drop, sym, refl, ap, ◌∙◌, subst, arith, append-nil, append_assoc, length-append, length-drop}
+use Rattle.std.specs.Prelude.{Some, None}
 use Rattle.std.proofs.Math.Nat.{mod-add-mod}
 use Rattle.std.proofs.lemmas.List.{take-append-le}
 use Rattle.atomic_table.specs.Table.{Me, rest, turned}
 use Rattle.std.specs.declared.alloc.Global.{Global}
 use Rattle.std.specs.declared.collections.VecDeque.{VecDeque}
-use Rattle.std.specs.VecDeque.{deque_capacity}
 use Rattle.ifl_ringcore.specs.declared.history.Meaning.{Meaning}
 use Rattle.ifl_ring.specs.declared.view.View.{View}
 use Rattle.ifl_ring.specs.declared.place.Place.{Place}
-use Rattle.ifl_ring.specs.declared.place.Place.TheVariants.{Item, Post, Away, Told, Parting}
-use Rattle.ifl_ringcore.specs.State.{Consumer, role_of, first_state}
+use Rattle.ifl_ring.specs.declared.place.Place.TheVariants.{Item, Post, Away}
+use Rattle.ifl_ringcore.specs.State.{role_of, first_state}
 use Rattle.ifl_ringcore.specs.History.{state_after}
 use Rattle.ifl_ring.specs.Law.{Has, HasRoom}
 use Rattle.ifl_base.specs.Space.{advanced}
@@ -19,7 +18,7 @@ use Rattle.ifl_ring.specs.Acts.{out_all, laid, Gathered, InFront, IsPostFirst}
 use Rattle.ifl_ring.specs.Tells.{nothing, Parked}
 use Rattle.ifl_ring.specs.Draining.{Drives, Consuming}
 use Rattle.ifl_ring.specs.PutBack.{IsBack}
-use Rattle.ifl_ring.proofs.Gathering.{nth, out_snoc}
+use Rattle.ifl_ring.proofs.Gathering.{nth}
 use Rattle.ifl_ring.proofs.Strings.{drop_all, take_all_of, drop_drop, drop_left, take_more, map_drop, map_take, out_append, out_long_is, out_cut, laid_cut, laid_join, laid_long, take_drop}
 
 module _ {A : Type 0} where

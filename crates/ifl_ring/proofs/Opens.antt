@@ -1,29 +1,25 @@
 -- The ring at the start.
-use Rattle.std.proofs.Common.{Bool, true, false, eqb, ◌≡◌, ◌≢◌, ℕ, zero, suc, ◌+◌, ◌-◌, ◌%◌, ◌*◌, ◌^◌, ◌<◌, ◌≤◌, List, [], ◌∷◌, ◌++◌, length, map, take, get_or, sym, refl, ap, ◌∙◌, subst, inl, inr, ◌⊎◌, ⊎_elim, arith, length-append, mod-lt, mod-eq_of_lt, replicate}
+use Rattle.std.proofs.Common.{◌≡◌, ℕ, zero, suc, ◌+◌, ◌%◌, ◌<◌, ◌≤◌, List, [], ◌∷◌, ◌++◌, length, map, sym, refl, ap, ◌∙◌, subst, inl, arith, length-append, mod-lt, mod-eq_of_lt, replicate}
 use Rattle.std.proofs.lemmas.List.{length-replicate}
-use Rattle.std.specs.Prelude.{Option, Some, None}
+use Rattle.std.specs.Prelude.{None}
 use Rattle.std.specs.declared.alloc.Global.{Global}
 use Rattle.std.specs.declared.collections.VecDeque.{VecDeque}
-use Rattle.std.specs.VecDeque.{deque_capacity}
 use mathlib.Core.Option.{some, none, some-injective, some-ne-none}
 use mathlib.Core.Option as maybe
 use lib.ListN.{get_elem?}
-use Rattle.atomic_table.specs.Table.{State, opening}
+use Rattle.atomic_table.specs.Table.{opening}
 use Rattle.atomic_table.proofs.Lists.{at_map, at_last}
-use Rattle.ifl_base.specs.declared.word.Flag.TheVariants.{Idle, Busy}
 use Rattle.ifl_ringcore.specs.declared.history.Meaning.{Meaning}
-use Rattle.ifl_ringcore.specs.declared.history.Entry.{Entry}
 use Rattle.ifl_ring.specs.declared.view.View.{View}
 use Rattle.ifl_ring.specs.declared.place.Place.{Place}
 use Rattle.ifl_ring.specs.declared.place.Place.TheVariants.{Item, Post}
 use Rattle.ifl_ring.specs.declared.place.Key.{Key}
-use Rattle.ifl_ringcore.specs.State.{RingState, first_state, role_of, free, ring_word}
-use Rattle.ifl_ringcore.specs.History.{state_after, own}
+use Rattle.ifl_ringcore.specs.State.{first_state, ring_word}
 use Rattle.ifl_ringcore.specs.Invariant.{RingInvariant}
 use Rattle.ifl_base.specs.Word.{pack}
 use Rattle.ifl_ring.specs.Acts.{IsOpening}
-use Rattle.ifl_ring.specs.Law.{HasRoom, has, Has, Sits, parts, first_view, Posted, Shelf, Lawful}
-use Rattle.ifl_ring.proofs.Seats.{only, no_none}
+use Rattle.ifl_ring.specs.Law.{HasRoom, Sits, first_view, Lawful}
+use Rattle.ifl_ring.proofs.Seats.{only}
 
 at_replicate : {A : Type 0} (n i : ℕ) (a : A) (ys : List A) → i < n → get_elem? (replicate n a ++ ys) i ≡ some a
 at_replicate zero i a ys h = absurd (omega arith)

@@ -1,69 +1,57 @@
 -- The steps by which a consumer gives places back: it leaves, or goes on with all that is published.
-use Rattle.std.proofs.Common.{Bool, true, false, eqb, ◌≡◌, ◌≢◌, ℕ, ◌+◌, ◌-◌, ◌%◌, ◌<◌, ◌≤◌, List, [], ◌∷◌, ◌++◌, length, map, take, drop, set, get_or, sym, refl, ap, ◌∙◌, subst, inl, inr, ◌⊎◌, ⊎_elim, arith, mod-lt, le_refl, lt_of_not-le, length-append, append-nil, zero, suc}
+use Rattle.std.proofs.Common.{eqb, ◌≡◌, ◌≢◌, ℕ, ◌+◌, ◌-◌, ◌%◌, ◌<◌, ◌≤◌, List, [], ◌∷◌, ◌++◌, length, map, take, drop, set, get_or, sym, refl, ap, ◌∙◌, subst, ◌⊎◌, arith, mod-lt, zero, suc}
 use mathlib.Core.Logic.{dite}
-use native.Mathlib.Decide.{dec_le, ℕ_discrete}
+use native.Mathlib.Decide.{ℕ_discrete}
 use Rattle.std.specs.Prelude.{Option, Some, None}
 use mathlib.Core.Option.{some, none, some-ne-none}
 use mathlib.Core.Option as maybe
 use lib.ListN.{get_elem?}
 use prog.Atomic.{either}
 use Rattle.std.proofs.Math.Nat.{mod-add-mod}
-use Rattle.std.proofs.lemmas.List.{take-append-le}
 use Rattle.atomic_table.specs.Table.{State, Me, Step as TableStep, step, Allows, Act, Valid, stepped, carried_after, homes_after}
-use Rattle.atomic_table.proofs.Lists.{exchanged, at_longer, at_map, one_turn}
+use Rattle.atomic_table.proofs.Lists.{exchanged, at_map, one_turn}
 use Rattle.ifl_base.specs.declared.word.Flag.{Flag}
 use Rattle.ifl_base.specs.declared.word.Flag.TheVariants.{Idle, Busy, Stalled, Abdicated}
 use Rattle.ifl_ringcore.specs.declared.history.Meaning.{Meaning}
 use Rattle.ifl_ringcore.specs.declared.history.Entry.{Entry}
-use Rattle.ifl_ringcore.specs.declared.history.Step.TheVariants.{Look, Reserve, Behind, Elected}
-use Rattle.ifl_ring.specs.declared.view.Known.{Known}
 use Rattle.ifl_ring.specs.declared.view.View.{View}
 use Rattle.ifl_base.specs.declared.word.RingWord.{RingWord}
 use Rattle.ifl_ring.specs.declared.place.Place.{Place}
 use Rattle.ifl_ring.specs.declared.place.Key.{Key}
-use Rattle.ifl_ringcore.specs.State.{RingState, Consumer, Role, reservation, reservation_of, without, role_of, free, first_state, ring_word}
-use Rattle.ifl_ringcore.specs.Invariant.{Tends, RingInvariant, reach, reach_of}
+use Rattle.ifl_ringcore.specs.State.{RingState, Consumer, Role, role_of, free, first_state, ring_word}
+use Rattle.ifl_ringcore.specs.Invariant.{Tends, reach, reach_of}
 use Rattle.ifl_ringcore.specs.History.{state_after}
 use Rattle.ifl_ringcore.specs.Effects.{effect}
 use Rattle.ifl_ringcore.specs.Conditions.{IsAllowed}
 use Rattle.ifl_base.specs.Word.{pack}
-use Rattle.ifl_base.specs.Space.{space, advanced}
+use Rattle.ifl_base.specs.Space.{advanced}
 use Rattle.ifl_base.specs.Word.{IsWithin}
-use Rattle.ifl_ring.specs.Law.{Has, HasRoom, saw, moved, Posted, Shelf, Lawful, IsAtRest}
-use Rattle.ifl_ringcore.proofs.Reservations.{cover_le, reservation_of-within}
+use Rattle.ifl_ring.specs.Law.{HasRoom, moved, Shelf, Lawful}
+use Rattle.ifl_ringcore.proofs.Reservations.{cover_le}
 use Rattle.ifl_ringcore.proofs.Histories.{state_after-append}
 use Rattle.ifl_ring.proofs.Seats.{part_of}
 use Rattle.ifl_ring.proofs.Steps.{steps, size_is, made_now, Goes, word_of, look_at}
-use Rattle.ifl_ring.proofs.Reserving.{reach_le, le_reach, word_is}
+use Rattle.ifl_ring.proofs.Reserving.{word_is}
 use Rattle.std.specs.declared.alloc.Global.{Global}
 use Rattle.std.specs.declared.collections.VecDeque.{VecDeque}
-use Rattle.std.specs.VecDeque.{deque_capacity}
-use Rattle.std.proofs.Common.{length-set, length-drop, eq-eqb}
+use Rattle.std.proofs.Common.{length-drop}
 use Rattle.atomic_table.specs.Table.{chain, takes}
-use Rattle.atomic_table.proofs.Lists.{set_here, set_else}
 use Rattle.ifl_ring.specs.declared.place.Place.TheVariants.{Item, Post, Told}
 use Rattle.ifl_ringcore.specs.Effects.{elected}
 use Rattle.ifl_ringcore.specs.State.{consumer_of}
-use Rattle.ifl_ringcore.specs.declared.history.Step.TheVariants.{Advance, LeaveIdle}
-use Rattle.std.proofs.Math.Nat.{add-mod_right}
+use Rattle.ifl_ringcore.specs.declared.history.Step.TheVariants.{Advance}
 use Rattle.atomic_table.specs.Table.{gives, put_back, rest}
 use mathlib.Core.Option.{some-injective}
-use Rattle.ifl_ringcore.proofs.Keeping.{no_consumer}
-use Rattle.std.proofs.Common.{ne_eqb}
 use Rattle.ifl_ring.specs.Acts.{out_all, give_all}
-use Rattle.ifl_ring.proofs.Slots.{apart}
-use Rattle.ifl_ring.proofs.Emptied.{back_carried, back_valid, back_long, back_else, back_here, take_after, after_append}
+use Rattle.ifl_ring.proofs.Emptied.{back_carried, back_valid, take_after, after_append}
 use Rattle.ifl_ring.specs.Tells.{nothing}
 use Rattle.ifl_ring.specs.Acts.{laid}
-use Rattle.ifl_ring.proofs.Laid.{gave_long, gave_else, gave_here}
-use Rattle.std.specs.VecDeque.{deque_capacity}
 use Rattle.ifl_ring.specs.declared.place.Place.TheVariants.{Parting}
-use Rattle.ifl_ringcore.specs.declared.history.Step.TheVariants.{LeaveAbdicated, Stall}
 use Rattle.ifl_ringcore.specs.Effects.{went_on}
 use Rattle.ifl_ring.specs.Acts.{take_all, value, lying}
-use Rattle.ifl_ring.specs.Tells.{entry, Made, Same, Advances, Leaves, Handed, Parked, MayPart, drain_in, told, looked, left, went_forth}
+use Rattle.ifl_ring.specs.Tells.{entry, Advances, Leaves, Handed, Parked, MayPart, drain_in, left, went_forth}
 use Rattle.ifl_ring.specs.Calls.{parting}
-use Rattle.ifl_ring.proofs.Slots.{out_carried, out_long, out_else, out_here, out_valid}
+use Rattle.ifl_ring.proofs.Slots.{out_carried, out_else, out_valid}
 use Rattle.ifl_ring.proofs.Laid.{collect, gave_carried, gave_valid}
 use Rattle.ifl_ring.proofs.Electing.{take-whole, drains_me, shelf_hand}
 use Rattle.ifl_ring.proofs.Leaving.{same_drain, some_same}

@@ -1,39 +1,36 @@
 -- The steps that publish.
-use Rattle.std.proofs.Common.{Bool, true, false, eqb, ◌≡◌, ◌≢◌, ℕ, ◌+◌, ◌-◌, ◌%◌, ◌<◌, ◌≤◌, List, [], ◌∷◌, ◌++◌, length, map, take, drop, set, get_or, sym, refl, ap, ◌∙◌, subst, inl, inr, ◌⊎◌, ⊎_elim, arith, mod-lt, le_refl, lt_of_not-le, length-append, append-nil, zero, suc}
+use Rattle.std.proofs.Common.{eqb, ◌≡◌, ℕ, ◌+◌, ◌-◌, ◌%◌, ◌<◌, ◌≤◌, List, [], ◌∷◌, ◌++◌, length, map, take, get_or, sym, refl, ap, ◌∙◌, subst, arith, mod-lt, lt_of_not-le, suc}
 use mathlib.Core.Logic.{dite}
 use native.Mathlib.Decide.{dec_le}
-use Rattle.std.specs.Prelude.{Option, Some, None}
+use Rattle.std.specs.Prelude.{Some, None}
 use mathlib.Core.Option.{some, none, some-ne-none}
 use mathlib.Core.Option as maybe
 use lib.ListN.{get_elem?}
 use prog.Atomic.{either}
 use Rattle.std.proofs.Math.Nat.{mod-add-mod}
 use Rattle.std.proofs.lemmas.List.{take-append-le}
-use Rattle.atomic_table.specs.Table.{State, Me, Step as TableStep, step, Allows, Act, Valid, stepped, carried_after, homes_after}
+use Rattle.atomic_table.specs.Table.{State, Me, Step as TableStep, step, Allows, Valid, stepped, carried_after, homes_after}
 use Rattle.atomic_table.proofs.Lists.{exchanged, at_longer, at_map, one_turn}
-use Rattle.ifl_base.specs.declared.word.Flag.{Flag}
-use Rattle.ifl_base.specs.declared.word.Flag.TheVariants.{Idle, Busy, Stalled, Abdicated}
+use Rattle.ifl_base.specs.declared.word.Flag.TheVariants.{Busy}
 use Rattle.ifl_ringcore.specs.declared.history.Meaning.{Meaning}
 use Rattle.ifl_ringcore.specs.declared.history.Entry.{Entry}
-use Rattle.ifl_ringcore.specs.declared.history.Step.TheVariants.{Look, Reserve, Behind, Elected}
-use Rattle.ifl_ring.specs.declared.view.Known.{Known}
+use Rattle.ifl_ringcore.specs.declared.history.Step.TheVariants.{Behind}
 use Rattle.ifl_ring.specs.declared.view.View.{View}
 use Rattle.ifl_base.specs.declared.word.RingWord.{RingWord}
 use Rattle.ifl_ring.specs.declared.place.Place.{Place}
-use Rattle.ifl_ring.specs.declared.place.Place.TheVariants.{Item, Told}
 use Rattle.ifl_ring.specs.declared.place.Key.{Key}
-use Rattle.ifl_ringcore.specs.State.{RingState, Consumer, Role, reservation, reservation_of, without, role_of, free, first_state, ring_word}
-use Rattle.ifl_ringcore.specs.Invariant.{Tends, RingInvariant, reach, reach_of}
+use Rattle.ifl_ringcore.specs.State.{RingState, Role, reservation, reservation_of, role_of, free, first_state, ring_word}
+use Rattle.ifl_ringcore.specs.Invariant.{RingInvariant}
 use Rattle.ifl_ringcore.specs.History.{state_after}
 use Rattle.ifl_ringcore.specs.Effects.{effect}
 use Rattle.ifl_ringcore.specs.Conditions.{IsAllowed}
 use Rattle.ifl_base.specs.Word.{pack}
-use Rattle.ifl_base.specs.Space.{space, advanced}
+use Rattle.ifl_base.specs.Space.{advanced}
 use Rattle.ifl_base.specs.Word.{IsWithin}
 use Rattle.ifl_ring.specs.Acts.{give_all, laid, items_in}
-use Rattle.ifl_ring.specs.Law.{Has, saw, moved, Posted, Shelf, Lawful, IsAtRest}
-use Rattle.ifl_ring.specs.Tells.{entry, Made, Same, Behinds, told, looked, joined}
-use Rattle.ifl_ringcore.proofs.Reservations.{cover_le, reservation_of-within}
+use Rattle.ifl_ring.specs.Law.{Has, moved, Posted, Shelf, Lawful}
+use Rattle.ifl_ring.specs.Tells.{entry, Behinds, joined}
+use Rattle.ifl_ringcore.proofs.Reservations.{reservation_of-within}
 use Rattle.ifl_ringcore.proofs.Histories.{state_after-append}
 use Rattle.ifl_ringcore.proofs.Keeping.{cover-without}
 use Rattle.ifl_ring.proofs.Slots.{apart}

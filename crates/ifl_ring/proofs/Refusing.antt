@@ -1,42 +1,35 @@
 -- A step that finds a word and is refused by it, or looks.
-use Rattle.std.proofs.Common.{Bool, true, false, eqb, ◌≡◌, ◌≢◌, ℕ, ◌+◌, ◌-◌, ◌%◌, ◌<◌, ◌≤◌, List, [], ◌∷◌, ◌++◌, length, set, get_or, sym, refl, ap, ◌∙◌, subst, inl, inr, ◌⊎◌, ⊎_elim, arith, mod-lt, le_refl, lt_of_not-le, take}
+use Rattle.std.proofs.Common.{eqb, ◌≡◌, ℕ, ◌+◌, ◌-◌, ◌<◌, ◌≤◌, List, [], ◌∷◌, ◌++◌, get_or, sym, refl, ap, ◌∙◌, subst, arith, lt_of_not-le}
 use mathlib.Core.Logic.{dite}
 use native.Mathlib.Decide.{dec_le}
-use Rattle.std.specs.Prelude.{Option, Some, None}
-use mathlib.Core.Option.{some, none}
-use mathlib.Core.Option as maybe
-use lib.ListN.{get_elem?}
+use Rattle.std.specs.Prelude.{None}
+use mathlib.Core.Option.{some}
 use prog.Atomic.{either}
-use Rattle.std.proofs.Math.Nat.{mod-add-mod}
-use Rattle.atomic_table.specs.Table.{State, Me, Step as TableStep, step, Allows, Act, Valid, stepped, carried_after, homes_after}
+use Rattle.atomic_table.specs.Table.{State, Me, Step as TableStep, step, Allows}
 use Rattle.atomic_table.proofs.Lists.{exchanged}
 use Rattle.ifl_ringcore.specs.declared.history.Meaning.{Meaning}
 use Rattle.ifl_ringcore.specs.declared.history.Entry.{Entry}
-use Rattle.ifl_ringcore.specs.declared.history.Step.TheVariants.{Look, Reserve}
+use Rattle.ifl_ringcore.specs.declared.history.Step.TheVariants.{Look}
 use Rattle.ifl_ring.specs.declared.view.View.{View}
 use Rattle.ifl_base.specs.declared.word.RingWord.{RingWord}
 use Rattle.ifl_ring.specs.declared.place.Place.{Place}
-use Rattle.ifl_ring.specs.declared.place.Place.TheVariants.{Item, Told}
+use Rattle.ifl_ring.specs.declared.place.Place.TheVariants.{Told}
 use Rattle.ifl_ring.specs.declared.place.Key.{Key}
-use Rattle.ifl_ringcore.specs.State.{RingState, Consumer, reservation, reservation_of, Role, role_of, free, first_state, ring_word}
-use Rattle.ifl_ringcore.specs.Invariant.{Tends, RingInvariant, reach, reach_of}
+use Rattle.ifl_ringcore.specs.State.{RingState, reservation_of, role_of, free, first_state, ring_word}
 use Rattle.ifl_ringcore.specs.History.{state_after}
 use Rattle.ifl_ringcore.specs.Effects.{effect}
 use Rattle.ifl_ringcore.specs.Conditions.{IsAllowed, IsBatch}
 use Rattle.ifl_base.specs.Word.{pack}
-use Rattle.ifl_base.specs.Space.{space, advanced}
-use Rattle.ifl_base.specs.Word.{IsWithin}
-use Rattle.ifl_ring.specs.Law.{Has, saw, moved, Posted, Shelf, Lawful, IsAtRest}
-use Rattle.ifl_ringcore.proofs.Reservations.{cover_le, reservation_of-append}
+use Rattle.ifl_base.specs.Space.{space}
+use Rattle.ifl_ring.specs.Law.{moved, Lawful, IsAtRest}
 use Rattle.ifl_ringcore.proofs.Histories.{state_after-append}
-use Rattle.ifl_ringcore.proofs.Residues.{space-ring_word, pack-same, number_of-same}
-use Rattle.ifl_ring.proofs.Steps.{steps, size_is, made_now, Goes, word_of, look_at}
+use Rattle.ifl_ringcore.proofs.Residues.{space-ring_word}
+use Rattle.ifl_ring.proofs.Steps.{steps, size_is, made_now, Goes, word_of}
 use Rattle.ifl_ringcore.specs.declared.history.Step.TheVariants.{Refuse}
 use Rattle.std.proofs.Common.{◌^◌, ◌*◌}
 use Rattle.atomic_table.specs.Table.{keeps as keeps_act}
-use Rattle.ifl_ring.specs.Tells.{entry, Made, Same, told, refused}
+use Rattle.ifl_ring.specs.Tells.{entry, Made, refused}
 use Rattle.ifl_ring.proofs.Rests.{small_word}
-use Rattle.ifl_ring.proofs.Reserving.{word_is}
 
 module _ {I D O : Type 0} (meaning : I → Meaning) (origin : D → O) (settled full : D → Type 0) (stands_for : D → List Meaning → Type 0) where
   abbrev Law : Key O → State (Place I D) (View O) → Type 0

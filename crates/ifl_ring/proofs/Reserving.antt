@@ -1,5 +1,5 @@
 -- The step that reserves places.
-use Rattle.std.proofs.Common.{Bool, true, false, eqb, ◌≡◌, ◌≢◌, ℕ, ◌+◌, ◌-◌, ◌%◌, ◌<◌, ◌≤◌, List, [], ◌∷◌, ◌++◌, length, set, get_or, sym, refl, ap, ◌∙◌, subst, inl, inr, ◌⊎◌, ⊎_elim, arith, mod-lt, le_refl, lt_of_not-le, take}
+use Rattle.std.proofs.Common.{eqb, ◌≡◌, ℕ, ◌+◌, ◌%◌, ◌<◌, ◌≤◌, List, [], ◌∷◌, ◌++◌, get_or, sym, refl, ap, ◌∙◌, subst, inl, inr, ◌⊎◌, ⊎_elim, arith, mod-lt, le_refl, lt_of_not-le, take}
 use mathlib.Core.Logic.{dite}
 use native.Mathlib.Decide.{dec_le}
 use Rattle.std.specs.Prelude.{Option, Some, None}
@@ -8,18 +8,18 @@ use mathlib.Core.Option as maybe
 use lib.ListN.{get_elem?}
 use prog.Atomic.{either}
 use Rattle.std.proofs.Math.Nat.{mod-add-mod}
-use Rattle.atomic_table.specs.Table.{State, Me, Step as TableStep, step, Allows, Act, Valid, stepped, carried_after, homes_after}
+use Rattle.atomic_table.specs.Table.{State, Me, Step as TableStep, step, Allows, carried_after, homes_after}
 use Rattle.atomic_table.proofs.Lists.{exchanged}
 use Rattle.ifl_ringcore.specs.declared.history.Meaning.{Meaning}
 use Rattle.ifl_ringcore.specs.declared.history.Entry.{Entry}
-use Rattle.ifl_ringcore.specs.declared.history.Step.TheVariants.{Look, Reserve}
+use Rattle.ifl_ringcore.specs.declared.history.Step.TheVariants.{Reserve}
 use Rattle.ifl_ring.specs.declared.view.View.{View}
 use Rattle.ifl_base.specs.declared.word.RingWord.{RingWord}
 use Rattle.ifl_ring.specs.declared.place.Place.{Place}
-use Rattle.ifl_ring.specs.declared.place.Place.TheVariants.{Item, Told}
+use Rattle.ifl_ring.specs.declared.place.Place.TheVariants.{Told}
 use Rattle.ifl_ring.specs.declared.place.Key.{Key}
 use Rattle.ifl_ringcore.specs.State.{RingState, Consumer, reservation, reservation_of, Role, role_of, free, first_state, ring_word}
-use Rattle.ifl_ringcore.specs.Invariant.{Tends, RingInvariant, reach, reach_of}
+use Rattle.ifl_ringcore.specs.Invariant.{Tends, RingInvariant, reach_of}
 use Rattle.ifl_ringcore.specs.History.{state_after}
 use Rattle.ifl_ringcore.specs.Effects.{effect}
 use Rattle.ifl_ringcore.specs.Conditions.{IsAllowed, IsBatch}
@@ -27,8 +27,8 @@ use Rattle.ifl_base.specs.Word.{pack}
 use Rattle.ifl_base.specs.Space.{space, advanced}
 use Rattle.ifl_base.specs.Word.{IsWithin}
 use Rattle.ifl_ring.specs.Acts.{take_all, out_all}
-use Rattle.ifl_ring.specs.Law.{Has, saw, moved, Posted, Shelf, Lawful, IsAtRest}
-use Rattle.ifl_ring.specs.Tells.{entry, Made, Same, start_of, place_of, Reserves, told, nothing, looked, reserved}
+use Rattle.ifl_ring.specs.Law.{moved, Posted, Shelf, Lawful, IsAtRest}
+use Rattle.ifl_ring.specs.Tells.{entry, Same, start_of, place_of, Reserves, nothing, reserved}
 use Rattle.ifl_ringcore.proofs.Reservations.{cover_le, reservation_of-append}
 use Rattle.ifl_ringcore.proofs.Histories.{state_after-append}
 use Rattle.ifl_ring.proofs.Slots.{apart, out_carried, out_long, out_else, out_here, out_valid}

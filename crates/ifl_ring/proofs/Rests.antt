@@ -1,5 +1,5 @@
 -- What a seat knows of its part in the ring after a step of its own.
-use Rattle.std.proofs.Common.{◌≡◌, ℕ, ◌+◌, ◌-◌, List, [], ◌∷◌, ◌++◌, sym, refl, ap, ◌∙◌, subst, arith, ◌<◌, ◌≤◌, ◌*◌, ◌^◌, mod-lt}
+use Rattle.std.proofs.Common.{◌≡◌, ℕ, ◌+◌, ◌-◌, List, [], ◌∷◌, ◌++◌, sym, ap, ◌∙◌, subst, arith, ◌<◌, ◌≤◌, ◌*◌, ◌^◌, mod-lt}
 use Rattle.ifl_base.specs.declared.word.Flag.{Flag}
 use Rattle.ifl_base.specs.declared.word.Flag.TheVariants.{Idle, Busy, Stalled, Abdicated}
 use Rattle.ifl_base.specs.declared.word.RingWord.{RingWord}
@@ -7,15 +7,14 @@ use Rattle.ifl_base.specs.Word.{IsWithin}
 use Rattle.ifl_ring.specs.Words.{IsWordOf}
 use Rattle.ifl_ringcore.proofs.Residues.{pack-same}
 use Rattle.ifl_ring.proofs.Reserving.{word_is}
-use Rattle.ifl_ringcore.specs.declared.history.Step.{Step}
 use Rattle.ifl_ringcore.specs.declared.history.Step.TheVariants.{Look}
 use Rattle.ifl_ringcore.specs.declared.history.Entry.{Entry}
 use Rattle.ifl_ring.specs.declared.view.Known.{Known}
-use Rattle.ifl_ringcore.specs.State.{RingState, role_of, free, first_state, ring_word}
+use Rattle.ifl_ringcore.specs.State.{role_of, free, first_state, ring_word}
 use Rattle.ifl_ringcore.specs.History.{state_after}
 use Rattle.ifl_ringcore.specs.Effects.{effect}
 use Rattle.ifl_base.specs.Word.{pack, number_of}
-use Rattle.ifl_ring.specs.Law.{Has, saw, IsAtRest}
+use Rattle.ifl_ring.specs.Law.{Has, IsAtRest}
 use Rattle.ifl_ring.specs.Tells.{entry, Made, Looks, Looked}
 use Rattle.ifl_ringcore.proofs.Histories.{state_after-append}
 

@@ -1,14 +1,12 @@
 -- Seats are split and joined.
-use Rattle.std.proofs.Common.{Bool, true, false, eqb, ◌||◌, ◌≡◌, ◌≢◌, ℕ, zero, suc, ◌+◌, ◌-◌, ◌/◌, ◌%◌, ◌*◌, ◌<◌, ◌≤◌, List, [], ◌∷◌, ◌++◌, length, set, get_or, cond, sym, refl, ap, ◌∙◌, subst, inl, inr, ◌⊎◌, ⊎_elim, arith, length-append, length-set, append-nil, eq-eqb, eqb-true, ne_eqb}
-use Rattle.std.specs.Prelude.{Option, Some, None}
+use Rattle.std.proofs.Common.{true, false, eqb, ◌≡◌, ◌≢◌, ℕ, zero, suc, ◌+◌, ◌<◌, ◌≤◌, List, [], ◌∷◌, ◌++◌, length, set, get_or, cond, sym, refl, ap, ◌∙◌, subst, inl, inr, ◌⊎◌, ⊎_elim, arith, length-append, length-set, append-nil, eq-eqb, ne_eqb}
 use mathlib.Core.Option.{some, none, some-injective, some-ne-none}
-use mathlib.Core.Option as maybe
 use mathlib.Core.Logic.{dite}
 use native.Mathlib.Decide.{ℕ_discrete}
 use lib.ListN.{get_elem?}
-use Rattle.atomic_table.specs.Table.{State, Me, Step as TableStep, step, Allows, Splits, Joins}
+use Rattle.atomic_table.specs.Table.{State, Me, step, Allows, Splits, Joins}
 use Rattle.atomic_table.specs.Table.{keeps as keeps_act}
-use Rattle.atomic_table.proofs.Lists.{at_set, set_here, set_else, at_longer, at_last, set_again}
+use Rattle.atomic_table.proofs.Lists.{at_set, set_here, set_else, at_longer}
 use Rattle.ifl_ringcore.specs.declared.history.Meaning.{Meaning}
 use Rattle.ifl_ringcore.specs.declared.history.Entry.{Entry}
 use Rattle.ifl_ring.specs.declared.view.Past.{Past}
@@ -16,13 +14,12 @@ use Rattle.ifl_ring.specs.declared.view.Known.{Known}
 use Rattle.ifl_ring.specs.declared.view.View.{View}
 use Rattle.ifl_ring.specs.declared.place.Place.{Place}
 use Rattle.ifl_ring.specs.declared.place.Key.{Key}
-use Rattle.ifl_ringcore.specs.State.{RingState, role_of, free, first_state, ring_word}
-use Rattle.ifl_ringcore.specs.History.{state_after, IsLegalHistory, own}
+use Rattle.ifl_ringcore.specs.State.{RingState, role_of, free, first_state}
+use Rattle.ifl_ringcore.specs.History.{state_after, own}
 use Rattle.ifl_ringcore.specs.Invariant.{RingInvariant}
 use Rattle.ifl_base.specs.declared.limits.TheConstants.{PART}
-use Rattle.ifl_base.specs.Word.{pack}
-use Rattle.ifl_ring.specs.Law.{has, Has, Begins, Complete, Kept, Remembers, Sits, AreDisjoint, parts, saw, moved, half, cut_left, cut_right, joined_known, past, both, gone, Shelf, Lawful, IsAtRest}
-use Rattle.ifl_ring.specs.Tells.{Same, Names, Recalls, Meets, Joined, christened, met}
+use Rattle.ifl_ring.specs.Law.{has, Has, Kept, Remembers, Sits, AreDisjoint, parts, moved, half, cut_left, cut_right, joined_known, past, both, gone, Lawful, IsAtRest}
+use Rattle.ifl_ring.specs.Tells.{Names, Recalls, Meets, Joined, christened, met}
 use Rattle.ifl_ring.proofs.Steps.{parts_set, each_set, in_range, bare, size_is}
 
 at_end : {A : Type 0} (l : List A) (a b : A) (j : ℕ) → get_elem? (l ++ a ∷ []) j ≡ some b → (get_elem? l j ≡ some b) ⊎ ((j ≡ length l) × (a ≡ b))

@@ -1,13 +1,11 @@
 -- What a consumer knows after it looked, and after it gave places back.
-use Rattle.std.proofs.Common.{◌≡◌, ◌≢◌, ℕ, zero, suc, ◌+◌, ◌-◌, ◌%◌, ◌<◌, ◌≤◌, ◌⊎◌, inl, inr, ⊎_elim, min, Bool, true, false, List, [], ◌∷◌, ◌++◌, length, map, take, drop, sym, refl, ap, ◌∙◌, subst, arith, append_assoc, length-append, length-drop, mod-lt}
+use Rattle.std.proofs.Common.{◌≡◌, ◌≢◌, ℕ, zero, suc, ◌+◌, ◌-◌, ◌%◌, ◌<◌, ◌≤◌, ◌⊎◌, inl, inr, ⊎_elim, min, Bool, true, false, List, [], ◌∷◌, ◌++◌, length, map, take, drop, sym, refl, ap, ◌∙◌, subst, arith, append_assoc, length-drop}
 use mathlib.Core.Logic.{dite}
-use native.Mathlib.Decide.{dec_le, ℕ_discrete}
-use Rattle.std.specs.Prelude.{Option, Some, None}
+use native.Mathlib.Decide.{dec_le}
+use Rattle.std.specs.Prelude.{Some, None}
 use Rattle.std.proofs.Math.Nat.{mod-add-mod}
 use Rattle.atomic_table.specs.Table.{Me}
 use Rattle.atomic_table.proofs.Lists.{one_turn}
-use Rattle.std.specs.declared.alloc.Global.{Global}
-use Rattle.std.specs.declared.collections.VecDeque.{VecDeque}
 use Rattle.ifl_base.specs.declared.word.Flag.{Flag}
 use Rattle.ifl_base.specs.declared.word.Flag.TheVariants.{Idle, Busy, Stalled, Abdicated}
 use Rattle.ifl_ringcore.specs.declared.history.Step.TheVariants.{Elected, Look, Advance}
@@ -17,20 +15,20 @@ use Rattle.ifl_base.specs.declared.word.RingWord.{RingWord}
 use Rattle.ifl_ring.specs.declared.view.Known.{Known}
 use Rattle.ifl_ring.specs.declared.view.View.{View}
 use Rattle.ifl_ring.specs.declared.place.Place.{Place}
-use Rattle.ifl_ring.specs.declared.place.Place.TheVariants.{Item, Post, Away, Told, Parting}
+use Rattle.ifl_ring.specs.declared.place.Place.TheVariants.{Post}
 use Rattle.ifl_ringcore.specs.declared.history.Step.TheVariants.{TakeOver}
 use Rattle.ifl_ringcore.specs.Effects.{elected}
 use Rattle.ifl_ring.specs.Tells.{Electing, TakesOver}
-use Rattle.ifl_ringcore.specs.State.{RingState, Consumer, Role, consumer_of, role_of, free, first_state, ring_word}
+use Rattle.ifl_ringcore.specs.State.{RingState, Consumer, Role, role_of, first_state, ring_word}
 use Rattle.ifl_ringcore.specs.Invariant.{Tends, RingInvariant}
 use Rattle.ifl_ringcore.specs.Effects.{went_on, effect}
 use Rattle.ifl_ringcore.specs.History.{state_after}
 use Rattle.ifl_base.specs.Word.{pack}
 use Rattle.ifl_base.specs.Space.{advanced}
 use Rattle.ifl_base.specs.Word.{IsWithin}
-use Rattle.ifl_ring.specs.Law.{Has, saw, IsAtRest}
+use Rattle.ifl_ring.specs.Law.{Has, IsAtRest}
 use Rattle.ifl_ring.specs.Acts.{laid}
-use Rattle.ifl_ring.specs.Tells.{entry, nothing, Same, Made, Looks, Leaves, Advances, Handed, Parked, MayPart, drain_in, Went}
+use Rattle.ifl_ring.specs.Tells.{entry, Same, Looks, Leaves, Advances, Handed, Parked, MayPart, drain_in, Went}
 use Rattle.ifl_ring.specs.Calls.{parting}
 use Rattle.ifl_ring.specs.Draining.{IsFresh, Drives, GoesOn, Moves, EndsRound, FlagAfter, IsOver}
 use Rattle.ifl_ring.specs.Calls.{IsTotal}
@@ -39,9 +37,9 @@ use Rattle.ifl_ringcore.proofs.Histories.{state_after-append}
 use Rattle.ifl_ring.proofs.Reserving.{word_is}
 use Rattle.ifl_ring.proofs.Emptied.{take_after, after_append}
 use Rattle.ifl_ring.proofs.Electing.{take-whole}
-use Rattle.ifl_ring.proofs.Leaving.{same_drain, some_same}
+use Rattle.ifl_ring.proofs.Leaving.{same_drain}
 use Rattle.ifl_ring.proofs.Offering.{length_take_le}
-use Rattle.ifl_ring.proofs.Calls.{made_went, went_on_to}
+use Rattle.ifl_ring.proofs.Calls.{made_went}
 
 is_over : (over : Bool) (n : ℕ) (d : Consumer) → IsOver over n d → d.budget ≤ d.total + n → over ≡ true
 is_over true n d o h = refl

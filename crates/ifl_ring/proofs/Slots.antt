@@ -1,13 +1,13 @@
 -- What taking and giving several slots does to those at home.
-use Rattle.std.proofs.Common.{◌≡◌, ◌≢◌, ℕ, zero, suc, ◌+◌, ◌%◌, ◌<◌, ◌≤◌, ◌⊎◌, ⊎_elim, inl, inr, List, [], ◌∷◌, length, set, sym, refl, ap, ◌∙◌, subst, arith, length-set, mod-lt}
+use Rattle.std.proofs.Common.{◌≡◌, ◌≢◌, ℕ, zero, suc, ◌+◌, ◌%◌, ◌<◌, ◌≤◌, List, ◌∷◌, length, set, sym, refl, ap, ◌∙◌, arith, length-set}
 use mathlib.Core.Option.{some, none}
 use mathlib.Core.Option as maybe
 use mathlib.Core.Logic.{dite}
 use native.Mathlib.Decide.{ℕ_discrete, dec_le}
 use lib.ListN.{get_elem?}
-use Rattle.atomic_table.specs.Table.{Act, keeps, takes, gives, chain, carried_after, homes_after, Valid, put_back, rest}
+use Rattle.atomic_table.specs.Table.{carried_after, homes_after, Valid}
 use Rattle.atomic_table.proofs.Lists.{set_here, set_else, one_turn}
-use Rattle.ifl_ring.specs.Acts.{take_all, out_all, give_all}
+use Rattle.ifl_ring.specs.Acts.{take_all, out_all}
 
 -- two numbers in one turn lie in two slots
 pub apart : (size b m j : ℕ) → b ≤ m → m < b + size → b ≤ j → j < b + size → m ≢ j → m % size ≢ j % size

@@ -1,6 +1,5 @@
 -- One event at one step keeps the rule, where the slots are as the event leaves them.
-use Rattle.std.proofs.Common.{false, true, ◌≡◌, ◌≢◌, ℕ, ◌+◌, ◌%◌, ◌<◌, ◌≤◌, List, [], ◌∷◌, ◌++◌, length, set, append_assoc, sym, refl, ap, ◌∙◌, subst, inl, inr, ◌⊎◌, ⊎_elim, arith, length-append, length-set, append-nil, zero, suc, get_or, ◌-◌}
-use Rattle.std.specs.Prelude.{Option, Some, None}
+use Rattle.std.proofs.Common.{false, true, ◌≡◌, ◌≢◌, ℕ, ◌+◌, ◌<◌, List, [], ◌∷◌, ◌++◌, length, set, append_assoc, sym, refl, ap, ◌∙◌, subst, inl, inr, ⊎_elim, arith, length-set, append-nil, zero, suc, get_or, ◌-◌}
 use mathlib.Core.Option.{some, none, some-injective, some-ne-none}
 use mathlib.Core.Option as maybe
 use mathlib.Core.Logic.{dite}
@@ -8,8 +7,8 @@ use native.Mathlib.Decide.{ℕ_discrete}
 use lib.ListN.{get_elem?}
 use Rattle.atomic_table.specs.Table.{State, Me, Step as TableStep, step, Allows, Act, Valid, stepped, carried_after}
 use Rattle.atomic_table.specs.Table.{keeps as keeps_act}
-use Rattle.ifl_ringcore.specs.declared.history.Step.TheVariants.{Look, Reserve, Behind, Elected, Advance, LeaveIdle}
-use Rattle.ifl_ring.specs.Tells.{entry, Made, size_of, Looks, looked}
+use Rattle.ifl_ringcore.specs.declared.history.Step.TheVariants.{Look}
+use Rattle.ifl_ring.specs.Tells.{entry, Made, Looks, looked}
 use Rattle.atomic_table.proofs.Lists.{at_set, set_here, set_else}
 use Rattle.ifl_ringcore.specs.declared.history.Meaning.{Meaning}
 use Rattle.ifl_ringcore.specs.declared.history.Entry.{Entry}
@@ -17,14 +16,14 @@ use Rattle.ifl_ring.specs.declared.view.Past.{Past}
 use Rattle.ifl_ring.specs.declared.view.View.{View}
 use Rattle.ifl_ring.specs.declared.place.Place.{Place}
 use Rattle.ifl_ring.specs.declared.place.Key.{Key}
-use Rattle.ifl_ringcore.specs.State.{RingState, role_of, free, first_state, ring_word}
-use Rattle.ifl_ringcore.specs.History.{state_after, IsLegalHistory, own}
+use Rattle.ifl_ringcore.specs.State.{RingState, role_of, first_state, ring_word}
+use Rattle.ifl_ringcore.specs.History.{state_after, own}
 use Rattle.ifl_ringcore.specs.Effects.{effect}
 use Rattle.ifl_ringcore.specs.Conditions.{IsAllowed}
 use Rattle.ifl_ringcore.specs.Invariant.{RingInvariant}
 use Rattle.ifl_base.specs.Word.{pack}
 use Rattle.ifl_ring.specs.Law.{Has, Begins, Complete, Kept, Remembers, Sits, parts, saw, moved, Shelf, Lawful}
-use Rattle.ifl_ringcore.proofs.Histories.{state_after-append, legal-append, own-append_other, own-append}
+use Rattle.ifl_ringcore.proofs.Histories.{state_after-append, legal-append, own-append_other}
 use Rattle.ifl_ringcore.proofs.Keeping.{invariant-effect, role_of-effect}
 
 pub begins_more : (log seen : List Entry) (e : Entry) → Begins log seen → Begins (log ++ e ∷ []) seen

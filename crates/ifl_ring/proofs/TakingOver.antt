@@ -1,57 +1,44 @@
 -- The step that takes a drain over.
-use Rattle.std.proofs.Common.{Bool, true, false, eqb, ◌≡◌, ◌≢◌, ℕ, ◌+◌, ◌-◌, ◌%◌, ◌<◌, ◌≤◌, List, [], ◌∷◌, ◌++◌, length, map, take, drop, set, get_or, sym, refl, ap, ◌∙◌, subst, inl, inr, ◌⊎◌, ⊎_elim, arith, mod-lt, le_refl, lt_of_not-le, length-append, append-nil, zero, suc}
-use mathlib.Core.Logic.{dite}
-use native.Mathlib.Decide.{dec_le}
+use Rattle.std.proofs.Common.{eqb, ◌≡◌, ◌≢◌, ℕ, ◌+◌, ◌-◌, ◌%◌, ◌<◌, ◌≤◌, List, [], ◌∷◌, ◌++◌, map, take, drop, set, get_or, sym, refl, ap, ◌∙◌, subst, inl, inr, ◌⊎◌, ⊎_elim, arith, mod-lt}
 use Rattle.std.specs.Prelude.{Option, Some, None}
 use mathlib.Core.Option.{some, none, some-ne-none}
 use mathlib.Core.Option as maybe
 use lib.ListN.{get_elem?}
 use prog.Atomic.{either}
-use Rattle.std.proofs.Math.Nat.{mod-add-mod}
-use Rattle.std.proofs.lemmas.List.{take-append-le}
-use Rattle.atomic_table.specs.Table.{State, Me, Step as TableStep, step, Allows, Act, Valid, stepped, carried_after, homes_after}
-use Rattle.atomic_table.proofs.Lists.{exchanged, at_longer, at_map, one_turn}
-use Rattle.ifl_base.specs.declared.word.Flag.{Flag}
-use Rattle.ifl_base.specs.declared.word.Flag.TheVariants.{Idle, Busy, Stalled, Abdicated}
+use Rattle.atomic_table.specs.Table.{State, Me, Step as TableStep, step, Allows, Act, Valid, carried_after, homes_after}
+use Rattle.atomic_table.proofs.Lists.{exchanged, one_turn}
+use Rattle.ifl_base.specs.declared.word.Flag.TheVariants.{Busy, Stalled, Abdicated}
 use Rattle.ifl_ringcore.specs.declared.history.Meaning.{Meaning}
 use Rattle.ifl_ringcore.specs.declared.history.Entry.{Entry}
-use Rattle.ifl_ringcore.specs.declared.history.Step.TheVariants.{Look, Reserve, Behind, Elected, TakeOver}
-use Rattle.ifl_ring.specs.declared.view.Known.{Known}
+use Rattle.ifl_ringcore.specs.declared.history.Step.TheVariants.{TakeOver}
 use Rattle.ifl_ring.specs.declared.view.View.{View}
 use Rattle.ifl_base.specs.declared.word.RingWord.{RingWord}
 use Rattle.ifl_ring.specs.declared.place.Place.{Place}
 use Rattle.ifl_ring.specs.declared.place.Key.{Key}
-use Rattle.ifl_ringcore.specs.State.{RingState, Consumer, Role, reservation, reservation_of, without, role_of, free, first_state, ring_word}
-use Rattle.ifl_ringcore.specs.Invariant.{Tends, RingInvariant, reach, reach_of}
+use Rattle.ifl_ringcore.specs.State.{RingState, Consumer, Role, reservation_of, role_of, free, first_state, ring_word}
+use Rattle.ifl_ringcore.specs.Invariant.{reach, reach_of}
 use Rattle.ifl_ringcore.specs.History.{state_after}
 use Rattle.ifl_ringcore.specs.Effects.{effect}
 use Rattle.ifl_ringcore.specs.Conditions.{IsAllowed}
 use Rattle.ifl_base.specs.Word.{pack}
-use Rattle.ifl_base.specs.Space.{space, advanced}
 use Rattle.ifl_base.specs.Word.{IsWithin}
-use Rattle.ifl_ring.specs.Acts.{give_all, laid, items_in}
-use Rattle.ifl_ring.specs.Law.{Has, saw, moved, Posted, Shelf, Lawful, IsAtRest}
-use Rattle.ifl_ringcore.proofs.Reservations.{cover_le, reservation_of-within}
+use Rattle.ifl_ring.specs.Acts.{laid}
+use Rattle.ifl_ring.specs.Law.{moved, Posted, Lawful, IsAtRest}
+use Rattle.ifl_ringcore.proofs.Reservations.{cover_le}
 use Rattle.ifl_ringcore.proofs.Histories.{state_after-append}
-use Rattle.ifl_ring.proofs.Slots.{apart}
-use Rattle.ifl_ring.proofs.Laid.{gave_carried, gave_valid, gave_long, gave_else, gave_here, laid_items}
 use Rattle.ifl_ring.proofs.Seats.{part_of}
 use Rattle.ifl_ring.proofs.Steps.{steps, size_is, made_now, Goes, word_of, look_at}
-use Rattle.ifl_ring.proofs.Reserving.{reach_le, le_reach, word_is}
-use Rattle.std.specs.declared.alloc.Global.{Global}
-use Rattle.std.specs.declared.collections.VecDeque.{VecDeque}
-use Rattle.std.proofs.Common.{length-set, length-drop, eq-eqb}
+use Rattle.ifl_ring.proofs.Reserving.{word_is}
+use Rattle.std.proofs.Common.{length-drop}
 use Rattle.atomic_table.specs.Table.{chain, takes}
-use Rattle.atomic_table.proofs.Lists.{set_here, set_else}
 use Rattle.ifl_ring.specs.declared.place.Place.TheVariants.{Item, Post, Told}
 use Rattle.ifl_ringcore.specs.Effects.{elected}
 use Rattle.ifl_ringcore.specs.State.{consumer_of}
-use Rattle.ifl_ring.specs.Acts.{take_all, out_all, lying, value}
-use Rattle.ifl_ring.specs.Tells.{entry, Made, Same, TakesOver, Handed, told, looked, took_over}
-use Rattle.ifl_ringcore.proofs.Keeping.{cover-without, no_consumer}
-use Rattle.ifl_ring.proofs.Slots.{out_carried, out_long, out_else, out_here, out_valid}
+use Rattle.ifl_ring.specs.Acts.{take_all, lying, value}
+use Rattle.ifl_ring.specs.Tells.{entry, TakesOver, Handed, took_over}
+use Rattle.ifl_ringcore.proofs.Keeping.{no_consumer}
+use Rattle.ifl_ring.proofs.Slots.{out_carried, out_else, out_valid}
 use Rattle.ifl_ring.proofs.Laid.{collect}
-use Rattle.ifl_ring.proofs.Publishing.{length_map, at_turn, shelf_give}
 use Rattle.ifl_ring.proofs.Electing.{take-whole, drains_me, shelf_hand}
 
 module _ {I D O : Type 0} (meaning : I → Meaning) (origin : D → O) (settled full : D → Type 0) (stands_for : D → List Meaning → Type 0) where

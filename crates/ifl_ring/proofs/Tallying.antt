@@ -1,5 +1,5 @@
 -- What seats have counted, as they are made, split and joined.
-use Rattle.std.proofs.Common.{Bool, true, false, cond, ◌||◌, ◌≡◌, ℕ, ◌+◌, eqb, List, [], ◌∷◌, ◌++◌, sym, refl, ap, ◌∙◌, subst, ◌⊎◌, ⊎_elim, arith}
+use Rattle.std.proofs.Common.{Bool, true, false, ◌||◌, ◌≡◌, ℕ, eqb, List, [], ◌∷◌, ◌++◌, sym, refl, ap, ◌∙◌, ⊎_elim, arith}
 use Rattle.ifl_ringcore.specs.declared.counters.Counters.{Counters}
 use Rattle.ifl_ringcore.specs.declared.history.Entry.{Entry}
 use Rattle.ifl_ringcore.specs.Counters.{nothing_counted, plus, capped, rise, counters_among}

@@ -1,12 +1,11 @@
 -- What several steps of one call do together, and what they count.
-use Rattle.std.proofs.Common.{Bool, true, false, eqb, cond, ◌≡◌, ◌≢◌, ℕ, ◌+◌, nat_eq, List, [], ◌∷◌, ◌++◌, append_assoc, append-nil, sym, refl, ap, ◌∙◌, subst, inl, inr, ◌⊎◌, ⊎_elim, arith, not, ◌&&◌, ne_eqb, ◌≤◌}
+use Rattle.std.proofs.Common.{Bool, true, false, cond, ◌≡◌, ◌≢◌, ℕ, ◌+◌, nat_eq, List, [], ◌∷◌, ◌++◌, append_assoc, append-nil, sym, refl, ap, ◌∙◌, subst, inl, inr, ◌⊎◌, ⊎_elim, arith, not, ◌&&◌, ne_eqb, ◌≤◌}
 use Rattle.std.specs.Prelude.{Option, Some, None}
 use Rattle.ifl_base.specs.declared.word.Flag.{Flag}
 use Rattle.ifl_base.specs.declared.word.Flag.TheVariants.{Idle, Busy, Stalled, Abdicated}
 use Rattle.ifl_ringcore.specs.declared.counters.Counters.{Counters}
 use Rattle.ifl_ringcore.specs.declared.history.Entry.{Entry}
-use Rattle.ifl_ringcore.specs.declared.history.Step.{Step}
-use Rattle.ifl_ringcore.specs.declared.history.Step.TheVariants.{Look, Advance}
+use Rattle.ifl_ringcore.specs.declared.history.Step.TheVariants.{Look}
 use Rattle.ifl_ringcore.specs.Counters.{nothing_counted, plus, rise, restarted, stalled_again, one_if, is_stalled, counters_among}
 use Rattle.ifl_ringcore.specs.Effects.{effect}
 use Rattle.ifl_ringcore.specs.History.{state_after, own}
@@ -14,9 +13,9 @@ use Rattle.ifl_ringcore.specs.State.{RingState, Consumer, Role, role_of, first_s
 use Rattle.ifl_ringcore.proofs.Counting.{plus-assoc, plus-nothing, nothing-plus, counters_among-append}
 use Rattle.ifl_ring.specs.declared.view.Known.{Known}
 use Rattle.ifl_ring.specs.Calls.{AreLooks, AreOfDrain, IsDrain, IsTotal, parting, released_by, released_in}
-use Rattle.ifl_ring.specs.Law.{has, Has, saw}
-use Rattle.ifl_ring.specs.Tally.{tally_of, Counts, drain_rise}
-use Rattle.ifl_ring.specs.Tells.{Advances, Leaves, Made, Went, entry, events}
+use Rattle.ifl_ring.specs.Law.{has, Has}
+use Rattle.ifl_ring.specs.Tally.{tally_of, drain_rise}
+use Rattle.ifl_ring.specs.Tells.{Advances, Leaves, Made, entry}
 use Rattle.ifl_ring.specs.Trails.{IsLived, IsRelease, Trails}
 use Rattle.ifl_ring.proofs.Calls.{head_own, made_went, tail_own, went_on_to}
 use Rattle.ifl_ring.proofs.Closing.{append_none, own_append}

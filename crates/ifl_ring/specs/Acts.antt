@@ -3,13 +3,13 @@ use Rattle.std.specs.Prelude.{◌≡◌, ℕ, zero, suc, ◌+◌, ◌%◌, List,
 use mathlib.Core.Option.{some, none}
 use mathlib.Core.Option as maybe
 use lib.ListN.{get_elem?}
-use Rattle.std.specs.Prelude.{Option, Some, None}
+use Rattle.std.specs.Prelude.{Some, None}
 use Rattle.std.specs.declared.alloc.Global.{Global}
 use Rattle.std.specs.declared.collections.VecDeque.{VecDeque}
 use Rattle.std.specs.VecDeque.{deque_capacity}
 use Rattle.atomic_table.specs.Table.{rest, Act, keeps, takes, gives, chain}
 use Rattle.ifl_ring.specs.declared.place.Place.{Place}
-use Rattle.ifl_ring.specs.declared.place.Place.TheVariants.{Item, Post, Away, Told}
+use Rattle.ifl_ring.specs.declared.place.Place.TheVariants.{Item, Post}
 
 module _ {S : Type 0} where
   -- the slots of the numbers from a on, n of them; f says what lies there. The first one is taken last, so that it is in front

@@ -1,18 +1,15 @@
 -- What a consumer knows, has out of its slots and keeps in its batch.
-use Rattle.std.specs.Prelude.{◌≡◌, ◌≢◌, ℕ, ◌+◌, ◌%◌, ◌<◌, ◌≤◌, ◌⊎◌, Bool, true, false, List, [], ◌∷◌, ◌++◌, length, map, take, drop, Option, Some, None}
+use Rattle.std.specs.Prelude.{◌≡◌, ◌≢◌, ℕ, ◌+◌, ◌%◌, ◌<◌, ◌≤◌, ◌⊎◌, Bool, true, false, List, [], ◌∷◌, ◌++◌, length, map, take, drop, Some, None}
 use Rattle.atomic_table.specs.Table.{Me}
 use Rattle.std.specs.declared.alloc.Global.{Global}
 use Rattle.std.specs.declared.collections.VecDeque.{VecDeque}
-use Rattle.std.specs.VecDeque.{deque_capacity}
 use Rattle.ifl_base.specs.declared.word.Flag.{Flag}
 use Rattle.ifl_base.specs.declared.word.Flag.TheVariants.{Idle, Busy, Stalled, Abdicated}
 use Rattle.ifl_ringcore.specs.declared.history.Meaning.{Meaning}
-use Rattle.ifl_ringcore.specs.declared.history.Entry.{Entry}
-use Rattle.ifl_ring.specs.declared.view.Known.{Known}
 use Rattle.ifl_ring.specs.declared.view.View.{View}
 use Rattle.ifl_ring.specs.declared.place.Place.{Place}
-use Rattle.ifl_ring.specs.declared.place.Place.TheVariants.{Item, Post, Away}
-use Rattle.ifl_ringcore.specs.State.{Consumer, role_of, free, first_state}
+use Rattle.ifl_ring.specs.declared.place.Place.TheVariants.{Post, Away}
+use Rattle.ifl_ringcore.specs.State.{Consumer, role_of, first_state}
 use Rattle.ifl_ringcore.specs.History.{state_after}
 use Rattle.ifl_ring.specs.Law.{Has, HasRoom}
 use Rattle.ifl_ring.specs.Acts.{out_all, laid}

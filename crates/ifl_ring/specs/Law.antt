@@ -1,5 +1,5 @@
 -- The rule of the ring's table: one legal history, and what lies in the slots.
-use Rattle.std.specs.Prelude.{◌-◌, ◌/◌, Bool, true, false, eqb, ◌||◌, ◌≡◌, ◌≢◌, ℕ, ◌+◌, ◌%◌, ◌<◌, ◌≤◌, List, [], ◌∷◌, ◌++◌, length, take, Option, Some, None, ◌⊎◌}
+use Rattle.std.specs.Prelude.{◌-◌, ◌/◌, Bool, true, false, eqb, ◌||◌, ◌≡◌, ℕ, ◌+◌, ◌%◌, ◌<◌, ◌≤◌, List, [], ◌∷◌, ◌++◌, length, take, Option, Some, None, ◌⊎◌}
 use mathlib.Core.Option.{some, none}
 use mathlib.Core.Option as maybe
 use lib.ListN.{get_elem?}
@@ -8,14 +8,14 @@ use Rattle.std.specs.declared.collections.VecDeque.{VecDeque}
 use Rattle.std.specs.VecDeque.{deque_capacity}
 use Rattle.ifl_base.specs.declared.word.Flag.{Flag}
 use Rattle.ifl_base.specs.declared.word.Flag.TheVariants.{Stalled}
-use Rattle.atomic_table.specs.Table.{State, Me, Step as TableStep}
+use Rattle.atomic_table.specs.Table.{State, Me}
 use Rattle.ifl_ringcore.specs.declared.history.Meaning.{Meaning}
 use Rattle.ifl_ringcore.specs.declared.history.Entry.{Entry}
 use Rattle.ifl_ring.specs.declared.view.Past.{Past}
 use Rattle.ifl_ring.specs.declared.view.Known.{Known}
 use Rattle.ifl_ring.specs.declared.view.View.{View}
 use Rattle.ifl_ring.specs.declared.place.Place.{Place}
-use Rattle.ifl_ring.specs.declared.place.Place.TheVariants.{Item, Post, Away, Told}
+use Rattle.ifl_ring.specs.declared.place.Place.TheVariants.{Item, Post}
 use Rattle.ifl_ring.specs.declared.place.Key.{Key}
 use Rattle.ifl_ring.specs.declared.place.Sheet.{Sheet}
 use Rattle.ifl_ringcore.specs.State.{RingState, Consumer, role_of, free, first_state, ring_word}

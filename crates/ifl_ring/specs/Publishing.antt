@@ -1,5 +1,5 @@
 -- The step by which a seat publishes.
-use Rattle.std.specs.Prelude.{◌≡◌, ℕ, ◌%◌, ◌<◌, Bool, true, false, List, [], ◌∷◌, Option, Some, None}
+use Rattle.std.specs.Prelude.{◌≡◌, ℕ, ◌%◌, ◌<◌, Bool, true, false, List, [], ◌∷◌, Some, None}
 use Rattle.atomic_table.specs.Table.{Me}
 use Rattle.ifl_base.specs.declared.word.Flag.{Flag}
 use Rattle.ifl_base.specs.declared.word.RingWord.{RingWord}
@@ -17,7 +17,7 @@ use Rattle.ifl_ring.specs.declared.published.Published.TheVariants.{Behind, Abdi
 use Rattle.ifl_ring.specs.declared.view.Known.{Known}
 use Rattle.ifl_ring.specs.declared.view.View.{View}
 use Rattle.ifl_ring.specs.Acts.{out_all}
-use Rattle.ifl_ring.specs.Calls.{AreLooks, Finds}
+use Rattle.ifl_ring.specs.Calls.{Finds}
 use Rattle.ifl_ring.specs.Law.{Has, Rests}
 use Rattle.ifl_ring.specs.Draining.{Drives, IsFresh}
 use Rattle.ifl_ring.specs.Tells.{nothing}

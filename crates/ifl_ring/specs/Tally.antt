@@ -3,7 +3,7 @@ use Rattle.std.specs.Prelude.{◌≡◌, ℕ, ◌&&◌, nat_eq, not}
 use Rattle.ifl_base.specs.declared.word.Flag.{Flag}
 use Rattle.ifl_base.specs.declared.word.Flag.TheVariants.{Idle, Busy, Stalled, Abdicated}
 use Rattle.ifl_ringcore.specs.declared.counters.Counters.{Counters}
-use Rattle.ifl_ringcore.specs.Counters.{nothing_counted, plus, capped, one_if, is_stalled, counters_among}
+use Rattle.ifl_ringcore.specs.Counters.{nothing_counted, plus, one_if, is_stalled, counters_among}
 use Rattle.ifl_ringcore.specs.State.{first_state}
 use Rattle.ifl_ring.specs.declared.view.Known.{Known}
 use Rattle.ifl_ring.specs.Law.{has}

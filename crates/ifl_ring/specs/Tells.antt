@@ -2,14 +2,13 @@
 use Rattle.std.specs.Prelude.{◌≡◌, ◌≢◌, ℕ, ◌+◌, ◌-◌, ◌%◌, ◌<◌, ◌≤◌, List, [], ◌∷◌, ◌++◌, cond, length, map, take, drop, Option, Some, None, ◌⊎◌}
 use Rattle.atomic_table.specs.Table.{Me, Step as TableStep}
 use Rattle.ifl_ringcore.specs.declared.history.Step.{Step}
-use Rattle.ifl_ringcore.specs.declared.history.Step.TheVariants.{Look, Refuse, Reserve, Behind, Elected, Abdicating, Advance, LeaveIdle, LeaveAbdicated, Stall, TakeOver}
+use Rattle.ifl_ringcore.specs.declared.history.Step.TheVariants.{Look, Refuse, Reserve, Behind, Elected, Abdicating, Advance, TakeOver}
 use Rattle.ifl_base.specs.declared.word.Flag.{Flag}
 use Rattle.ifl_base.specs.declared.word.Flag.TheVariants.{Idle, Busy, Stalled, Abdicated}
 use Rattle.ifl_ringcore.specs.declared.history.Entry.{Entry}
 use Rattle.ifl_ringcore.specs.declared.history.Meaning.{Meaning}
 use Rattle.std.specs.declared.alloc.Global.{Global}
 use Rattle.std.specs.declared.collections.VecDeque.{VecDeque}
-use Rattle.std.specs.VecDeque.{deque_capacity}
 use Rattle.ifl_ring.specs.declared.view.Known.{Known}
 use Rattle.ifl_ring.specs.declared.view.View.{View}
 use Rattle.ifl_base.specs.declared.word.RingWord.{RingWord}
@@ -18,7 +17,7 @@ use Rattle.ifl_ring.specs.declared.place.Place.TheVariants.{Item, Post, Told, Pa
 use mathlib.Core.Option.{some, none}
 use mathlib.Core.Option as maybe
 use Rattle.ifl_ring.specs.Acts.{out_all, laid, items_in}
-use Rattle.ifl_ringcore.specs.State.{RingState, Reservation, Consumer, consumer_of, reservation, reservation_of, role_of, free, first_state, ring_word}
+use Rattle.ifl_ringcore.specs.State.{Reservation, Consumer, consumer_of, reservation, reservation_of, role_of, free, first_state, ring_word}
 use Rattle.ifl_ringcore.specs.Effects.{went_on, elected}
 use Rattle.ifl_ringcore.specs.Invariant.{reach_of, RingInvariant}
 use Rattle.ifl_ringcore.specs.History.{state_after, IsLegalHistory, own}

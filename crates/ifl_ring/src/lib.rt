@@ -2,9 +2,8 @@
 //!
 //! A seat that publishes and finds no consumer becomes the consumer, and drains into the ring's [`Drainer`]. It stands
 //! on `atomic_table` for the word and the slots, on `ifl_base` for words, on `ifl_ringcore` for what a legal history
-//! is, on `ifl_outside` for the gate and on `crossbeam_utils` for waiting. Its one contract: the steps on the word form
-//! one legal history, of which each seat has seen a beginning with all of its own steps, and the answer of each call is
-//! what its own steps found.
+//! is, and on `ifl_outside` for the gate. Its one contract: the steps on the word form one legal history, of which each
+//! seat has seen a beginning with all of its own steps, and the answer of each call is what its own steps found.
 //!
 //! `specs/` reads in this order: `Law` (the rule: who owns which slot, what a seat knows), `Tells` and `Acts` (single
 //! steps), `Calls` (the answers), `Tally` (the counts), `Rings` and `Closed` (what contracts see).
@@ -12,6 +11,7 @@
 
 mod answers;
 mod bare;
+mod boxed;
 mod closed;
 mod counted;
 mod drainer;
@@ -20,6 +20,7 @@ mod plays;
 mod published;
 mod ring;
 mod view;
+mod waiting;
 mod word;
 
 pub use answers::{Checked, Enqueued, RingFault};

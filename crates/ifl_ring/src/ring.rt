@@ -35,7 +35,7 @@ use std::sync::Wait;
 /// It owns the items that are in it, and its drainer.
 #[derive(Drop)]
 pub struct Ring<D: Drainer> {
-    bare: BareRing<D>,
+    bare: BareRing<Box<D>>,
 }
 
 impl<D: Drainer> Model for Ring<D> {
@@ -43,7 +43,7 @@ impl<D: Drainer> Model for Ring<D> {
 
     ghost Value = { RingState D.Origin };
 
-    ghost view = { λ r. record { table = r.bare.table.shared.table_id; size = r.bare.size; origin = D.origin r.bare.table.shared.key.drainer.value } };
+    ghost view = { λ r. record { table = r.bare.table.shared.table_id; size = r.bare.size; origin = D.origin r.bare.table.shared.key.drainer.value.value } };
 }
 
 /// The leave to take part in a ring. A thread may hand it to another.
@@ -52,7 +52,7 @@ impl<D: Drainer> Model for Ring<D> {
 /// without a whole seat, so that the ring cannot be closed any more.
 #[derive(Drop)]
 pub struct Seat<D: Drainer> {
-    seat: BareSeat<D>,
+    seat: BareSeat<Box<D>>,
     part: u32,
     tally: Counters,
 }
@@ -103,13 +103,17 @@ impl<D: Drainer> Ring<D> {
         if size < 4 || size > 65536 {
             return Err((RingFault::BadSize(size), drainer));
         }
+        let drainer = match Box::new(alloc, drainer) {
+            Ok(drainer) => drainer,
+            Err(failed) => return Err((RingFault::Memory, failed.value)),
+        };
         let key = Sheet {
             size,
             drainer: Snapshot::of(&drainer),
         };
         let slots = match make_slots(alloc, size, drainer) {
             Ok(slots) => slots,
-            Err(drainer) => return Err((RingFault::Memory, drainer)),
+            Err(drainer) => return Err((RingFault::Memory, Box::into_inner(drainer))),
         };
         match Table::new(alloc, &[0], slots, &key) {
             Ok((table, seat)) => {
@@ -123,7 +127,7 @@ impl<D: Drainer> Ring<D> {
             }
             Err(refused) => {
                 let Refused { slots } = refused;
-                Err((RingFault::Memory, drainer_of(slots)))
+                Err((RingFault::Memory, Box::into_inner(drainer_of(slots))))
             }
         }
     }
@@ -243,6 +247,6 @@ impl<D: Drainer> Ring<D> {
             size,
             last,
         };
-        (closed, drainer)
+        (closed, Box::into_inner(drainer))
     }
 }

@@ -19,7 +19,7 @@ ghost use Rattle.ifl_base.specs.Space.{space, advanced};
 
 use crate::answers::Checked;
 use crate::bare::{BareRing, BareSeat, read};
-use crate::counted::nothing;
+use crate::counted::{drained, nothing};
 use crate::drainer::{Drainer, RingItem};
 use crate::place::Place;
 use crate::plays::TakeOver;
@@ -72,10 +72,11 @@ impl<D: Drainer> BareRing<D> {
                 }
                 Ok(()) => {
                     let items = distance(self.size, seen.cidx, seen.tail);
-                    let (left, total, counters) = self.drain(
-                        rt, seat, seen.cidx, items, budget, seen.flag,
-                    );
-                    (Checked::Drained { left, total }, counters)
+                    let (left, total) = self.drain(rt, seat, seen.cidx, items, budget, seen.flag);
+                    (
+                        Checked::Drained { left, total },
+                        drained(seen.flag, left, total),
+                    )
                 }
             }
         } else {

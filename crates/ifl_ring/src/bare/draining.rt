@@ -18,12 +18,10 @@ ghost use Rattle.ifl_ringcore.specs.Conditions.{IsBatch};
 ghost use Rattle.ifl_base.specs.Space.{space, advanced};
 
 use crate::bare::{BareRing, BareSeat};
-use crate::counted::drained;
 use crate::drainer::{Drainer, RingItem};
 use crate::place::Place;
 use crate::word::is_busy;
 use ifl_base::{Flag, advance};
-use ifl_ringcore::Counters;
 use std::collections::VecDeque;
 use std::sync::Wait;
 
@@ -155,6 +153,7 @@ impl<D: Drainer> BareRing<D> {
         requires going { (c : Consuming D.Item.meaning D.origin D.settled D.stands_for self.now.size round.old.count round.old.left round.old.at drainer.old batch.old seat.old.me) × GoesOn round.old.count (round.old.left + length batch.old.items) c.consumer }
         ensures same { (seat.new.table_id ≡ seat.old.table_id) × (seat.new.id ≡ seat.old.id) × (seat.new.me.0 ≡ seat.old.me.0) }
         ensures at { round.new.at < self.now.size }
+        ensures less { result ≡ true → round.new.left + length batch.new.items < round.old.left + length batch.old.items }
         ensures turn { (c : Consuming D.Item.meaning D.origin D.settled D.stands_for self.now.size round.old.count round.old.left round.old.at drainer.old batch.old seat.old.me) → IsTotal round.old.total (c.consumer.total + round.old.count) → c.consumer.budget ≡ budget → GoesOn round.old.count (round.old.left + length batch.old.items) c.consumer
             → (x : Consuming D.Item.meaning D.origin D.settled D.stands_for self.now.size round.new.count round.new.left round.new.at drainer.new batch.new seat.new.me) × (x.consumer ≡ c.consumer) × IsTotal round.new.total (c.consumer.total + round.new.count)
             × (result ≡ true → GoesOn round.new.count (round.new.left + length batch.new.items) c.consumer)
@@ -211,12 +210,8 @@ impl<D: Drainer> BareRing<D> {
             at,
             left,
         };
-        for _ in rt.forever() {
-            if self.take_turn(rt, seat, drainer, batch, &mut round, budget) {} else {
-                return round;
-            }
-        }
-        unreachable!()
+        while self.take_turn(rt, seat, drainer, batch, &mut round, budget) {}
+        round
     }
 
     /// One round of the drain: the flag that is set, and where the next round begins.
@@ -263,8 +258,8 @@ impl<D: Drainer> BareRing<D> {
         }
     }
 
-    /// Drains until the ring is no longer busy: the flag that is left, how many items were consumed, and what this
-    /// counts.
+    /// Drains until the ring is no longer busy: the flag that is left, and how many items were consumed. `from`, the
+    /// flag before, is for the contract alone.
     pub fn drain<R: Wait>(
         &self,
         rt: &R,
@@ -273,14 +268,14 @@ impl<D: Drainer> BareRing<D> {
         left: u32,
         budget: u32,
         from: Flag,
-    ) -> (Flag, u64, Counters)
+    ) -> (Flag, u64)
         requires table { seat.old.table_id ≡ self.now.table.shared.table_id }
         requires at { (at < self.now.size) × (left < self.now.size) × (budget ≤ 65535) }
         requires lived { IsLived self.now.size seat.old.me.0.known }
         requires drives { (v : Drives D.Item.meaning D.origin D.settled D.stands_for self.now.size left at seat.old.me) × IsFresh budget from v.consumer }
         ensures same { (seat.new.table_id ≡ seat.old.table_id) × (seat.new.id ≡ seat.old.id) }
         ensures left { (result.0 ≢ Flag.Busy) × IsAtRest seat.new.me.0.known × (seat.new.me.0.told ≡ []) × (seat.new.me.1 ≡ []) }
-        ensures trail { (es : _) × IsDrain result.0 result.1 es × Trails self.now.size seat.old.me.0.known es result.2 seat.new.me.0.known }
+        ensures trail { (es : _) × IsDrain result.0 result.1 es × Trails self.now.size seat.old.me.0.known es (drain_rise from result.0 result.1) seat.new.me.0.known }
     {
         let mut place = at;
         let mut items = left;
@@ -292,8 +287,7 @@ impl<D: Drainer> BareRing<D> {
                 items = done.left;
                 total = done.total;
             } else {
-                let counters = drained(from, done.flag, done.total);
-                return (done.flag, done.total, counters);
+                return (done.flag, done.total);
             }
         }
         unreachable!()

@@ -1,5 +1,5 @@
 //! A seat publishes what it laid into its places, and drains where nobody else does.
-ghost use Rattle.std.specs.Prelude.{true, false, ◌≡◌, ◌≢◌, ◌<◌, ◌≤◌, ℕ, [], ◌∷◌, ◌++◌, map, length, IfSome, IfNone};
+ghost use Rattle.std.specs.Prelude.{true, false, ◌≡◌, ◌≢◌, ◌<◌, ◌≤◌, ℕ, [], ◌∷◌, ◌++◌, map, length, IfOk, IfErr};
 ghost use Rattle.std.specs.VecDeque.{deque_capacity};
 ghost use Rattle.ifl_base.specs.declared.limits.TheConstants.{MAX_BATCH};
 ghost use Rattle.ifl_base.specs.Word.{IsWithin};
@@ -13,10 +13,11 @@ ghost use Rattle.ifl_ring.specs.Tells.{HasTurn, HoldsAt, Looks, Same};
 ghost use Rattle.ifl_ring.specs.Trails.{IsLived, Trails};
 
 use crate::answers::Enqueued;
-use crate::bare::{BareRing, BareSeat};
-use crate::counted::{elected, nothing, published, refused};
+use crate::bare::{BareRing, BareSeat, read};
+use crate::counted::{drained, elected, nothing, published, refused};
 use crate::drainer::{Drainer, RingItem};
 use crate::published::Published;
+use crate::waiting::Waiting;
 use crate::word::{distance, is_busy, is_stalled};
 use ifl_base::{RingWord, advance};
 use ifl_outside::{Gate, Point};
@@ -25,7 +26,7 @@ use std::collections::VecDeque;
 use std::sync::Wait;
 
 impl<D: Drainer> BareRing<D> {
-    /// Tries to publish at the seat's turn. It answers `None` where it found another word.
+    /// Tries to publish at the seat's turn. At `Err` it found another word.
     pub fn publish(
         &self,
         seat: &mut BareSeat<D>,
@@ -33,35 +34,30 @@ impl<D: Drainer> BareRing<D> {
         n: u32,
         budget: u32,
         abdicate: bool,
-    ) -> Option<Published>
+    ) -> Result<Published, u64>
         requires table { seat.old.table_id ≡ self.now.table.shared.table_id }
         requires turn { HasTurn self.now.size n w.now seat.old.me }
         requires word { IsWithin self.now.size w.now }
         requires count { n < self.now.size }
         ensures same { (seat.new.table_id ≡ seat.old.table_id) × (seat.new.id ≡ seat.old.id) }
-        ensures none { IfNone result ((x : ℕ) × Looks self.now.size seat.old.me.0.known x seat.new.me.0.known × (seat.new.me.1 ≡ seat.old.me.1) × Same seat.old.me.0 seat.new.me.0) }
-        ensures some { IfSome result (λ p. IsPublished self.now.size budget n abdicate (map D.Item.meaning (items_in seat.old.me.1)) w.now seat.old.me.0.known p seat.new.me.0.known × IsConsumer D.Item.meaning D.origin D.settled D.stands_for self.now.size budget w.now p seat.new.me) }
+        ensures err { IfErr result (λ x. Looks self.now.size seat.old.me.0.known x seat.new.me.0.known × (seat.new.me.1 ≡ seat.old.me.1) × Same seat.old.me.0 seat.new.me.0) }
+        ensures ok { IfOk result (λ p. IsPublished self.now.size budget n abdicate (map D.Item.meaning (items_in seat.old.me.1)) w.now seat.old.me.0.known p seat.new.me.0.known × IsConsumer D.Item.meaning D.origin D.settled D.stands_for self.now.size budget w.now p seat.new.me) }
     {
         if abdicate {
-            let Ok(()) = self.publish_abdicating(seat, w, n) else {
-                return None;
-            };
-            return Some(Published::Abdicated);
+            self.publish_abdicating(seat, w, n)?;
+            return Ok(Published::Abdicated);
         }
         if is_busy(w.flag) {
-            let Ok(()) = self.publish_behind(seat, w, n) else {
-                return None;
-            };
-            return Some(Published::Behind);
+            self.publish_behind(seat, w, n)?;
+            return Ok(Published::Behind);
         }
-        let Ok(()) = self.publish_elected(seat, w, n, budget) else {
-            return None;
-        };
+        self.publish_elected(seat, w, n, budget)?;
         let items = distance(self.size, w.cidx, advance(self.size, w.tail, n));
-        Some(Published::Elected { items })
+        Ok(Published::Elected { items })
     }
 
-    /// Publishes once it is the seat's turn: how, and the word that this found.
+    /// Publishes once it is the seat's turn, where the tail is the start of its reservation: how, and the word that this
+    /// found.
     pub fn publish_at_turn<R: Wait>(
         &self,
         rt: &R,
@@ -80,10 +76,17 @@ impl<D: Drainer> BareRing<D> {
         ensures published { (es : _) × (v : _) × AreLooks es × Trails self.now.size seat.old.me.0.known es nothing_counted v × IsPublished self.now.size budget n abdicate (map D.Item.meaning (items_in seat.old.me.1)) result.1 v result.0 seat.new.me.0.known }
         ensures consumer { IsConsumer D.Item.meaning D.origin D.settled D.stands_for self.now.size budget result.1 result.0 seat.new.me }
     {
+        let mut waiting = Waiting::new();
+        let mut w = self.look_again(seat);
         for _ in rt.forever() {
-            let w = self.await_turn(rt, seat, place, n);
-            if let Some(published) = self.publish(seat, &w, n, budget, abdicate) {
-                return (published, w);
+            if w.tail == place {
+                match self.publish(seat, &w, n, budget, abdicate) {
+                    Ok(published) => return (published, w),
+                    Err(found) => w = read(self.size, found),
+                }
+            } else {
+                waiting.wait();
+                w = self.look_again(seat);
             }
         }
         unreachable!()
@@ -118,12 +121,10 @@ impl<D: Drainer> BareRing<D> {
             Published::Behind => (Enqueued::Behind, published(n)),
             Published::Abdicated => (Enqueued::Abdicated, published(n)),
             Published::Elected { items } => {
-                let (left, total, counters) = self.drain(
-                    rt, seat, found.cidx, items, budget, found.flag,
-                );
+                let (left, total) = self.drain(rt, seat, found.cidx, items, budget, found.flag);
                 (
                     Enqueued::Drained { left, total },
-                    elected(n, found.flag).plus(&counters),
+                    elected(n, found.flag).plus(&drained(found.flag, left, total)),
                 )
             }
         }

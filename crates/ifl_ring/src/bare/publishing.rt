@@ -8,7 +8,7 @@ ghost use Rattle.ifl_ring.specs.Calls.{AreLooks};
 ghost use Rattle.ifl_ring.specs.Acts.{out_all, laid, items_in, IsOpening, IsPostFirst, IsItemFirst, InFront, Gathered};
 ghost use Rattle.std.specs.VecDeque.{deque_capacity};
 ghost use Rattle.atomic_table.specs.Table.{rest};
-ghost use Rattle.ifl_ring.specs.Law.{left_known, right_known, IsAtRest, first_view};
+ghost use Rattle.ifl_ring.specs.Law.{Has, left_known, right_known, IsAtRest, first_view};
 ghost use Rattle.ifl_base.specs.Word.{pack};
 ghost use Rattle.ifl_ringcore.specs.State.{ring_word, first_state};
 ghost use Rattle.ifl_ringcore.specs.History.{state_after};
@@ -22,7 +22,6 @@ use crate::drainer::{Drainer, RingItem};
 use crate::place::Place;
 use crate::plays::{Abdicate, Elect, Publish, Reserve, See};
 use crate::word::risen;
-use crossbeam_utils::Backoff;
 use ifl_base::{Flag, RingWord, advance};
 use std::sync::Wait;
 
@@ -52,33 +51,16 @@ impl<D: Drainer> BareRing<D> {
         if found == old { Ok(()) } else { Err(found) }
     }
 
-    /// Waits until the tail is the start of the seat's reservation.
-    pub fn await_turn<R: Wait>(
-        &self,
-        rt: &R,
-        seat: &mut BareSeat<D>,
-        place: u16,
-        n: u32,
-    ) -> RingWord
+    /// The word, as one step found it, for a seat with whatever slots it holds.
+    pub fn look_again(&self, seat: &mut BareSeat<D>) -> RingWord
         requires table { seat.old.table_id ≡ self.now.table.shared.table_id }
-        requires held { HoldsAt self.now.size n place seat.old.me }
-        requires lived { IsLived self.now.size seat.old.me.0.known }
-        ensures same { (seat.new.table_id ≡ seat.old.table_id) × (seat.new.id ≡ seat.old.id) × (seat.new.me.1 ≡ seat.old.me.1) }
-        ensures turn { HasTurn self.now.size n result seat.new.me }
-        ensures held { HoldsAt self.now.size n place seat.new.me }
-        ensures trail { (es : _) × AreLooks es × Trails self.now.size seat.old.me.0.known es nothing_counted seat.new.me.0.known }
-        ensures word { IsWithin self.now.size result }
+        requires named { Has seat.old.me.0.known.number seat.old.me.0.known.stands × (seat.old.me.0.told ≡ []) }
+        ensures same { (seat.new.table_id ≡ seat.old.table_id) × (seat.new.id ≡ seat.old.id) × (seat.new.me.1 ≡ seat.old.me.1) × Same seat.old.me.0 seat.new.me.0 }
+        ensures within { IsWithin self.now.size result }
+        ensures look { Looks self.now.size seat.old.me.0.known (pack result) seat.new.me.0.known }
     {
-        let backoff = Backoff::new();
-        for _ in rt.forever() {
-            let word = self.table.shared.load::<See>(seat, 0);
-            let w = read(self.size, word);
-            if w.tail == place {
-                return w;
-            }
-            backoff.snooze();
-        }
-        unreachable!()
+        let word = self.table.shared.load::<See>(seat, 0);
+        read(self.size, word)
     }
 
     /// Tries to publish behind a consumer. At `Err` it found another word.

@@ -69,20 +69,6 @@ pub fn drainer_of<I: Drop, D: Drop>(slots: Vec<Place<I, D>>) -> D
 }
 
 impl<D: Drainer> BareRing<D> {
-    /// Puts the item into the slot that was reserved.
-    pub fn fill(&self, seat: &mut BareSeat<D>, start: u16, item: D::Item)
-        requires table { seat.old.table_id ≡ self.now.table.shared.table_id }
-        requires slot { seat.old.me.1 ≡ (start, Place.Item None) ∷ [] }
-        ensures same { (seat.new.table_id ≡ seat.old.table_id) × (seat.new.id ≡ seat.old.id) }
-        ensures filled { seat.new.me ≡ (seat.old.me.0, (start, Place.Item (Some item)) ∷ []) }
-    {
-        drop(
-            self.table
-                .shared
-                .exchange(seat, start as usize, Place::Item(Some(item))),
-        );
-    }
-
     /// Takes the drainer and its batch out of the slot in front.
     pub fn take_post(&self, seat: &mut BareSeat<D>) -> (D, VecDeque<D::Item>)
         requires table { seat.old.table_id ≡ self.now.table.shared.table_id }
@@ -109,16 +95,14 @@ impl<D: Drainer> BareRing<D> {
         ensures same { (seat.new.table_id ≡ seat.old.table_id) × (seat.new.id ≡ seat.old.id) }
         ensures turned { seat.new.me ≡ (seat.old.me.0, rest seat.old.me.1 ++ (at, Place.Item None) ∷ []) }
     {
-        let found = self
-            .table
-            .shared
-            .exchange(seat, at as usize, Place::Item(None));
-        match found {
-            Place::Item(Some(item)) => {
-                seat.turn();
-                item
-            }
+        let item = match seat.slot_mut(&self.table.shared, at as usize) {
+            Place::Item(item) => item.take(),
             _ => unreachable!(),
+        };
+        seat.turn();
+        match item {
+            Some(item) => item,
+            None => unreachable!(),
         }
     }
 
@@ -171,11 +155,10 @@ impl<D: Drainer> BareRing<D> {
         ensures same { (seat.new.table_id ≡ seat.old.table_id) × (seat.new.id ≡ seat.old.id) }
         ensures filled { seat.new.me ≡ (seat.old.me.0, rest seat.old.me.1 ++ (at, Place.Item (Some item)) ∷ []) }
     {
-        drop(
-            self.table
-                .shared
-                .exchange(seat, at as usize, Place::Item(Some(item))),
-        );
+        match seat.slot_mut(&self.table.shared, at as usize) {
+            Place::Item(place) => *place = Some(item),
+            _ => unreachable!(),
+        }
         seat.turn();
     }
 

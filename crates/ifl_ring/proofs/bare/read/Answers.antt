@@ -1,4 +1,4 @@
-use Rattle.std.proofs.Common.{rules, arith, refl}
+use Rattle.std.proofs.Common.{arith, refl}
 use Rattle.ifl_ring.proofs.Rests.{small_word, word_within}
 use Rattle.ifl_ring.proofs.bare.read.Goals as goal
 

@@ -1,5 +1,4 @@
-use Rattle.std.proofs.Common.{rules, ap, ◌∙◌, sym}
-use Rattle.ifl_ring.specs.declared.place.Place.TheVariants.{Away}
+use Rattle.std.proofs.Common.{◌∙◌}
 use Rattle.atomic_table.specs.Table.{turned}
 use Rattle.ifl_ring.proofs.Offering.{post_first, begun}
 use Rattle.ifl_ring.proofs.bare.BareRing.begin.Goals as goal

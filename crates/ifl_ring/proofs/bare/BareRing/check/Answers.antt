@@ -1,9 +1,6 @@
-use Rattle.std.proofs.Common.{rules, arith, sym, ap, ◌∙◌, refl, inl, inr, subst, List, [], ◌∷◌, ◌++◌, ◌<◌, ◌≡◌, ◌⊎◌, ℕ}
-use Rattle.ifl_base.specs.declared.word.RingWord.{RingWord}
+use Rattle.std.proofs.Common.{rules, arith, sym, ap, ◌∙◌, refl, subst, [], ◌∷◌, ℕ}
 use Rattle.ifl_base.specs.Word.{pack}
-use Rattle.ifl_ringcore.specs.State.{first_state}
 use Rattle.ifl_ringcore.specs.Counters.{nothing_counted}
-use Rattle.ifl_ringcore.specs.History.{state_after}
 use Rattle.ifl_ringcore.specs.declared.counters.Counters.{Counters}
 use Rattle.ifl_ringcore.specs.declared.history.Entry.{Entry}
 use Rattle.ifl_ringcore.specs.declared.history.Step.TheVariants.{Look, TakeOver}
@@ -12,7 +9,7 @@ use Rattle.ifl_ring.specs.Tells.{entry}
 use Rattle.ifl_ring.specs.Trails.{Trails}
 use Rattle.ifl_ring.proofs.Rests.{rests_after_look}
 use Rattle.ifl_ring.proofs.Settling.{over_taken}
-use Rattle.ifl_ring.proofs.Trails.{lived, trail-after, trail-made}
+use Rattle.ifl_ring.proofs.Trails.{trail-after, trail-made}
 use Rattle.ifl_ring.proofs.bare.BareRing.check.Goals as goal
 
 pub drain-left-requires-clause-lived : goal.drain-left-requires-clause-lived
@@ -42,8 +39,9 @@ returns-in-Ok-clause-trail g c = let size : ℕ = c.args.self.now.size in let v 
     let one : Entry = entry v.number (pack c.look-seen.result) Look in let two : Entry = entry v1.number (pack c.look-seen.result) (TakeOver c.args.budget) in (
       one ∷ two ∷ d.0,
       (c.look-seen.result, one, two, d.0, refl, (refl, refl), c.is_left.ensures.yes c.if-is_left.true, (refl, refl), d.1),
-      trail-after size v v1 _ (one ∷ []) (two ∷ d.0) c.drain-left.result.2 (trail-made size v one v1 c.requires.rest.0.named look.0)
-          (trail-after size v1 v2 _ (two ∷ []) d.0 c.drain-left.result.2 (trail-made size v1 two v2 c.look-seen.ensures.rest.0.named o.1.made) d.2),
+      subst (λ (z : Counters). Trails size v (one ∷ two ∷ d.0) z c.drain-left.new.seat.me.0.known) (sym c.drained.ensures)
+          (trail-after size v v1 _ (one ∷ []) (two ∷ d.0) _ (trail-made size v one v1 c.requires.rest.0.named look.0)
+          (trail-after size v1 v2 _ (two ∷ []) d.0 _ (trail-made size v1 two v2 c.look-seen.ensures.rest.0.named o.1.made) d.2)),
     )
 
 pub returns-else-is_left-clause-trail : goal.returns-else-is_left-clause-trail

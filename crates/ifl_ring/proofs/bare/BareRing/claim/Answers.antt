@@ -1,10 +1,8 @@
-use Rattle.std.proofs.Common.{rules, arith, refl, [], ◌∷◌, ◌++◌, ◌∙◌, ap, sym, subst, List, append_assoc}
+use Rattle.std.proofs.Common.{arith, refl, [], ◌∷◌, ◌++◌, ◌∙◌, ap, sym, List, append_assoc}
 use Rattle.ifl_base.specs.Word.{pack}
 use Rattle.ifl_ringcore.specs.Counters.{nothing_counted}
-use Rattle.ifl_ringcore.specs.History.{state_after}
-use Rattle.ifl_ringcore.specs.State.{first_state}
 use Rattle.ifl_ringcore.specs.declared.history.Entry.{Entry}
-use Rattle.ifl_ringcore.specs.declared.history.Step.TheVariants.{Refuse, Reserve}
+use Rattle.ifl_ringcore.specs.declared.history.Step.TheVariants.{Reserve}
 use Rattle.ifl_ring.specs.Calls.{publishes}
 use Rattle.ifl_ring.specs.Tells.{entry}
 use Rattle.ifl_ring.proofs.Claiming.{has_places, publishing-last}

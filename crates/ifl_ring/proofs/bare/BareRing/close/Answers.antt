@@ -1,6 +1,6 @@
-use Rattle.std.proofs.Common.{rules, ℕ, ◌≡◌, ◌≢◌, ◌+◌, ◌-◌, ◌<◌, ◌≤◌, ◌++◌, take, drop, false, get_or, sym, ap, ◌∙◌, arith, inl, inr}
+use Rattle.std.proofs.Common.{ℕ, ◌≡◌, ◌≢◌, ◌-◌, ◌++◌, take, drop, false, get_or, ap, ◌∙◌, arith, inl}
 use Rattle.std.proofs.lemmas.List.{get_or-set_other}
-use Rattle.std.specs.Mem.Slots.{slots_items, slots_filled}
+use Rattle.std.specs.Mem.Slots.{slots_filled}
 use Rattle.ifl_ring.specs.Closed.{items_lying}
 use Rattle.ifl_ring.proofs.Ending.{ends_at, word_ends, post_ends, batch_room, closes_with, all_emptied}
 use Rattle.ifl_ringcore.specs.State.{first_state}

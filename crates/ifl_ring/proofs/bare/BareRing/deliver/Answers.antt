@@ -1,14 +1,14 @@
-use Rattle.std.proofs.Common.{rules, ap, sym, ◌∙◌, ◌∷◌, ◌++◌, [], map, refl, subst, List, ℕ}
+use Rattle.std.proofs.Common.{sym, ◌∙◌, ◌∷◌, ◌++◌, [], map, refl, subst, List}
 use Rattle.ifl_base.specs.declared.word.RingWord.{RingWord}
 use Rattle.ifl_ringcore.specs.Counters.{capped, nothing_counted, plus}
 use Rattle.ifl_ringcore.specs.declared.counters.Counters.{Counters}
-use Rattle.ifl_ringcore.specs.declared.history.Entry.{Entry}
 use Rattle.ifl_ringcore.specs.declared.history.Meaning.{Meaning}
 use Rattle.ifl_ringcore.specs.declared.history.Step.TheVariants as step
 use Rattle.ifl_ring.specs.Acts.{items_in}
 use Rattle.ifl_ring.specs.Publishing.{IsPublished, published_rise}
+use Rattle.ifl_ring.specs.Tally.{drain_rise}
 use Rattle.ifl_ring.specs.declared.published.Published.{Published}
-use Rattle.ifl_ring.specs.declared.published.Published.TheVariants.{Behind, Abdicated, Elected}
+use Rattle.ifl_ring.specs.declared.published.Published.TheVariants.{Elected}
 use Rattle.ifl_ring.proofs.Claiming.{publishing-drain}
 use Rattle.ifl_ring.proofs.Enqueueing.{capped-published, publishing-one}
 use Rattle.ifl_ring.proofs.Trails.{trail-after, trail-more}
@@ -37,10 +37,10 @@ returns-in-Abdicated-clause-went g c = let P = c.publish_at_turn-how.ensures.pub
 pub returns-in-Elected-clause-went : goal.returns-in-Elected-clause-went
 returns-in-Elected-clause-went g c = let P = c.publish_at_turn-how.ensures.published in let xs : List Meaning = map g.D.Item.RingItem.meaning (items_in c.args.seat.now.me.1) in let w : RingWord = c.publish_at_turn-how.result.1 in
     let q = subst (λ (z : Published). IsPublished c.args.self.now.size c.args.budget c.args.n c.args.abdicate xs w P.1 z c.publish_at_turn-how.new.seat.me.0.known) c.in-Elected.is P.4 in
-    let d = c.drain-left.ensures.trail in let up : Counters = published_rise c.args.n w.flag (Elected c.in-Elected.items) in (
+    let d = c.drain-left.ensures.trail in let up : Counters = published_rise c.args.n w.flag (Elected c.in-Elected.items) in let down : Counters = drain_rise w.flag c.drain-left.result.0 c.drain-left.result.1 in (
       P.0 ++ q.entry ∷ d.0,
-      plus up c.drain-left.result.2,
+      plus up down,
       (q.asked, publishing-one (step.Elected c.args.budget xs) P.0 d.0 q.entry P.2 q.finds.0 refl (publishing-drain _ _ d.0 d.1), (P.0, q.entry, d.0, refl, q.finds.0, d.1)),
-      trail-after _ _ _ _ P.0 (q.entry ∷ d.0) _ P.3 (trail-more _ _ _ _ (q.entry ∷ []) d.0 up c.drain-left.result.2 q.trail d.2),
-      c.plus.ensures ∙ ap (λ (z : Counters). capped (plus z c.drain-left.result.2)) c.elected.ensures,
+      trail-after _ _ _ _ P.0 (q.entry ∷ d.0) _ P.3 (trail-more _ _ _ _ (q.entry ∷ []) d.0 up down q.trail d.2),
+      c.plus.ensures ∙ (λ i. capped (plus (c.elected.ensures i) (c.drained.ensures i))),
     )

@@ -1,4 +1,4 @@
-use Rattle.std.proofs.Common.{rules, arith, ap, ◌∙◌, ◌+◌, ◌≡◌, ◌++◌, ℕ, sym, subst, refl, inl, []}
+use Rattle.std.proofs.Common.{arith, ap, ◌∙◌, ◌+◌, ◌≡◌, ◌++◌, ℕ, sym, subst, refl, inl, []}
 use Rattle.ifl_ringcore.specs.Counters.{nothing_counted}
 use Rattle.ifl_ringcore.specs.declared.counters.Counters.{Counters}
 use Rattle.ifl_base.specs.declared.word.Flag.{Flag}
@@ -27,7 +27,7 @@ returns-else-is_busy-clause-trail g c = let i = c.loop.invariant.4 in let ne = c
     ap (λ (z : Flag). drain_rise z c.round-done.result.flag (i.1.consumer.total + o.0)) i.7 ∙ sym (drain_rise-total c.args.from c.round-done.result.flag c.round-done.result.total (i.1.consumer.total + o.0) total) in (
       i.0 ++ o.1,
       drain-ends c.round-done.result.flag c.round-done.result.total o.0 i.0 o.1 i.2 ne o.2 (subst (λ (z : ℕ). IsTotal c.round-done.result.total (z + o.0)) (sym i.3) total),
-      subst (λ (z : Counters). Trails c.args.self.now.size c.args.seat.now.me.0.known (i.0 ++ o.1) z c.round-done.new.seat.me.0.known) (rise ∙ sym c.drained-counters.ensures) (trail-after _ _ _ _ i.0 o.1 _ i.4 o.3),
+      subst (λ (z : Counters). Trails c.args.self.now.size c.args.seat.now.me.0.known (i.0 ++ o.1) z c.round-done.new.seat.me.0.known) rise (trail-after _ _ _ _ i.0 o.1 _ i.4 o.3),
     )
 
 pub loop-preserved : goal.loop-preserved

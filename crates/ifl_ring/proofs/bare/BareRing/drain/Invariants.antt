@@ -10,4 +10,4 @@ abbrev pub invariant-loop : goal.invariant-loop
 invariant-loop g l = (l.seat.table_id ≡ l.initial.seat.table_id) × (l.seat.id ≡ l.initial.seat.id) × (l.place < l.self.size) × (l.items < l.self.size)
     × ((es : List Entry) × (v : Drives g.D.Item.RingItem.meaning g.D.Drainer.origin g.D.Drainer.settled g.D.Drainer.stands_for l.self.size l.items l.place l.seat.me)
     × AreOfDrain es × (released_in es ≡ v.consumer.total) × Trails l.self.size l.initial.seat.me.0.known es nothing_counted l.seat.me.0.known
-    × IsTotal l.total v.consumer.total × (v.consumer.budget ≡ l.budget) × (v.consumer.from ≡ l.from))
+    × IsTotal l.total v.consumer.total × (v.consumer.budget ≡ l.budget) × (v.consumer.from ≡ l.fn.from))

@@ -1,4 +1,4 @@
-use Rattle.std.proofs.Common.{rules, arith, ap, sym, ◌∙◌, ◌∷◌, ◌++◌, [], map, refl, subst, List, ℕ, length, append_assoc, ◌≤◌, ◌≡◌}
+use Rattle.std.proofs.Common.{rules, ap, sym, ◌∙◌, ◌∷◌, ◌++◌, [], map, subst, List, ℕ, length, append_assoc, ◌≤◌, ◌≡◌}
 use Rattle.ifl_base.specs.Space.{space}
 use Rattle.ifl_ringcore.specs.declared.history.Step.TheVariants.{Refuse}
 use Rattle.ifl_ring.specs.declared.view.Known.{Known}
@@ -9,12 +9,10 @@ use Rattle.ifl_ringcore.specs.declared.counters.Counters.{Counters}
 use Rattle.ifl_ringcore.specs.declared.history.Entry.{Entry}
 use Rattle.ifl_ringcore.specs.declared.history.Meaning.{Meaning}
 use Rattle.ifl_ring.specs.Calls.{IsEnqueued}
-use Rattle.ifl_ring.specs.declared.view.View.{View}
-use Rattle.ifl_ring.specs.Publishing.{HasPlaces}
-use Rattle.ifl_ring.specs.Trails.{IsLived, Trails}
+use Rattle.ifl_ring.specs.Trails.{Trails}
 use Rattle.ifl_ring.proofs.Claiming.{publishing-append}
-use Rattle.ifl_ring.proofs.Enqueueing.{capped-twice, enqueued-after, handed-over, holds-laid, items-laid}
-use Rattle.ifl_ring.proofs.Trails.{lived, trail-after, trail-more}
+use Rattle.ifl_ring.proofs.Enqueueing.{enqueued-after, holds-laid, items-laid}
+use Rattle.ifl_ring.proofs.Trails.{trail-after, trail-more}
 use Rattle.ifl_ring.proofs.bare.BareRing.enqueue.Goals as goal
 
 pub deliver-requires-clause-held : goal.deliver-requires-clause-held

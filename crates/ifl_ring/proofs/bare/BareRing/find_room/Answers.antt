@@ -1,9 +1,9 @@
-use Rattle.std.proofs.Common.{rules, arith, refl, [], ◌∷◌, ℕ, ◌<◌, ◌≤◌, subst}
+use Rattle.std.proofs.Common.{arith, refl, [], ◌∷◌, ℕ, ◌<◌, ◌≤◌, subst}
 use Rattle.ifl_base.specs.Space.{space}
 use Rattle.ifl_base.specs.Word.{pack}
 use Rattle.ifl_ringcore.specs.declared.history.Step.TheVariants.{Look, Refuse}
 use Rattle.ifl_ring.specs.Tells.{entry}
-use Rattle.ifl_ring.proofs.Trails.{trail-made, trail-none}
+use Rattle.ifl_ring.proofs.Trails.{trail-made}
 use Rattle.ifl_ring.proofs.bare.BareRing.find_room.Goals as goal
 
 pub returns-then-n-space-2-clause-ok : goal.returns-then-n-space-2-clause-ok

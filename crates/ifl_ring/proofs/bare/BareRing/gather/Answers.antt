@@ -1,4 +1,4 @@
-use Rattle.std.proofs.Common.{rules, arith, sym, ap, ◌∙◌, refl, append-nil, length, length-append, ◌∷◌, [], mod-lt, ◌+◌, ◌<◌}
+use Rattle.std.proofs.Common.{arith, ap, ◌∙◌, refl, length, length-append, ◌∷◌, [], mod-lt, ◌+◌, ◌<◌}
 use Rattle.ifl_ring.proofs.Gathering.{gather_none, first_item, gather_one}
 use Rattle.ifl_ring.proofs.bare.BareRing.gather.Goals as goal
 

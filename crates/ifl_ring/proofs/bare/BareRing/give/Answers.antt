@@ -1,4 +1,4 @@
-use Rattle.std.proofs.Common.{rules, subst}
+use Rattle.std.proofs.Common.{subst}
 use Rattle.ifl_base.specs.declared.word.Flag.{Flag}
 use Rattle.ifl_ring.specs.Tells.{MayPart}
 use Rattle.ifl_ring.proofs.bare.BareRing.give.Goals as goal

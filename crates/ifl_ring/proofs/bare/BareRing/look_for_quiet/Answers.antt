@@ -1,4 +1,4 @@
-use Rattle.std.proofs.Common.{rules, ◌∙◌, [], ◌∷◌, ◌++◌, refl}
+use Rattle.std.proofs.Common.{◌∙◌, [], ◌∷◌, refl}
 use Rattle.ifl_base.specs.Word.{pack}
 use Rattle.ifl_ringcore.specs.declared.history.Step.TheVariants.{Look}
 use Rattle.ifl_ring.specs.Tells.{entry}

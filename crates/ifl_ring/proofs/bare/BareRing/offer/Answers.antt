@@ -1,4 +1,4 @@
-use Rattle.std.proofs.Common.{rules, arith, ap, ◌∙◌, ◌+◌, ◌-◌, ◌≡◌, ◌≤◌, length, length-append, length-drop}
+use Rattle.std.proofs.Common.{arith, ap, ◌∙◌, ◌-◌, ◌≡◌, length, length-drop}
 use mathlib.Core.Logic.{dite}
 use native.Mathlib.Decide.{dec_le}
 use Rattle.ifl_ring.proofs.Offering.{front, offered, gathered_long}

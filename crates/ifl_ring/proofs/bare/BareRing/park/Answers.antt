@@ -1,5 +1,4 @@
-use Rattle.std.proofs.Common.{rules, arith, ap, ◌∙◌, ◌+◌, ◌<◌, ◌≡◌, ℕ, List, [], ◌∷◌, ◌++◌, refl, sym}
-use Rattle.ifl_ring.specs.declared.place.Place.{Place}
+use Rattle.std.proofs.Common.{arith, ap, ◌∙◌, ◌+◌, [], ◌∷◌, ◌++◌, refl, sym}
 use Rattle.ifl_ring.specs.declared.place.Place.TheVariants.{Away, Post}
 use Rattle.atomic_table.specs.Table.{rest, turned}
 use Rattle.ifl_ring.proofs.Offering.{first_turn, second_turn, last_turn, parked, X}

@@ -1,13 +1,12 @@
-use Rattle.std.proofs.Common.{rules, arith, ℕ, sym, ◌∙◌, ◌≡◌, ap, List, [], length}
+use Rattle.std.proofs.Common.{rules, ℕ, sym, ◌∙◌, ◌≡◌, ap}
 use mathlib.Core.Option.{none}
 use Rattle.ifl_base.specs.declared.word.RingWord.{RingWord}
 use Rattle.std.specs.Prelude.{Some, None}
 use Rattle.ifl_base.specs.Word.{pack}
 use Rattle.ifl_ringcore.specs.State.{reservation}
 use Rattle.ifl_base.specs.Space.{advanced}
-use Rattle.ifl_ring.specs.Acts.{laid}
 use Rattle.ifl_ring.proofs.Publishing.{behinds}
-use Rattle.ifl_ring.proofs.Bridge.{join_ok, join_err}
+use Rattle.ifl_ring.proofs.Bridge.{join_ok}
 use Rattle.ifl_ring.proofs.bare.BareRing.publish_behind.Goals as goal
 
 pub compare_exchange-found-requires : goal.compare_exchange-found-requires

@@ -1,5 +1,5 @@
-use Rattle.std.proofs.Common.{rules, arith, ap, ◌∙◌, ◌+◌, ◌<◌, refl, mod-lt}
-use Rattle.ifl_ring.proofs.Offering.{back_none, back_front, back_one, back_all}
+use Rattle.std.proofs.Common.{arith, ap, ◌∙◌, ◌+◌, ◌<◌, refl, mod-lt}
+use Rattle.ifl_ring.proofs.Offering.{back_none, back_front, back_one}
 use Rattle.ifl_ring.proofs.bare.BareRing.put_back.Goals as goal
 
 pub loop-item-init : goal.loop-item-init

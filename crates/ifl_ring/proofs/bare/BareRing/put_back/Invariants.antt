@@ -1,4 +1,4 @@
-use Rattle.std.proofs.Common.{◌≡◌, ◌%◌, ◌<◌, ◌++◌, length}
+use Rattle.std.proofs.Common.{◌≡◌, ◌%◌, ◌<◌, length}
 use Rattle.std.specs.VecDeque.{deque_capacity}
 use Rattle.ifl_ring.specs.Tells.{nothing}
 use Rattle.ifl_ring.specs.Acts.{out_all}

@@ -1,10 +1,9 @@
-use Rattle.std.proofs.Common.{rules, arith, ℕ, ap, sym, ◌∙◌, ◌≡◌, ◌≤◌, ◌<◌, lt_of_not-le}
+use Rattle.std.proofs.Common.{rules, arith, ℕ, ◌∙◌, ◌≡◌, lt_of_not-le}
 use mathlib.Core.Logic.{dite}
 use native.Mathlib.Decide.{dec_le}
 use Rattle.ifl_base.specs.Space.{space}
 use Rattle.ifl_ringcore.specs.History.{state_after}
 use Rattle.ifl_ringcore.specs.State.{first_state}
-use Rattle.ifl_ring.proofs.Bridge.{sized}
 use Rattle.ifl_ring.proofs.Claiming.{refused-sized, rests-made_look, rests-refused}
 use Rattle.ifl_ring.proofs.Refusing.{refuses, refused_word}
 use Rattle.ifl_ring.proofs.bare.BareRing.refuse.Goals as goal

@@ -1,11 +1,9 @@
-use Rattle.std.proofs.Common.{rules, arith, ap, ◌∙◌, sym, subst, refl, length, List, ◌+◌, ◌%◌, ◌≡◌, ◌≤◌, ◌<◌, ℕ, length-append, mod-lt}
+use Rattle.std.proofs.Common.{arith, ap, ◌∙◌, sym, subst, length, ◌+◌, ◌%◌, ◌≡◌, ◌<◌, ℕ, mod-lt}
 use Rattle.std.proofs.Math.Nat.{mod-add-mod}
 use Rattle.ifl_ringcore.specs.State.{Consumer}
 use Rattle.ifl_ring.specs.declared.view.Known.{Known}
-use Rattle.ifl_ringcore.specs.declared.history.Entry.{Entry}
 use Rattle.ifl_ring.specs.Tally.{drain_rise}
 use Rattle.ifl_ring.specs.Trails.{IsLived, Trails}
-use Rattle.ifl_ring.specs.Draining.{EndsRound}
 use Rattle.ifl_ring.specs.Calls.{IsTotal}
 use Rattle.ifl_ring.proofs.Settling.{over_is, ends_at}
 use Rattle.ifl_ring.proofs.bare.BareRing.round.Goals as goal

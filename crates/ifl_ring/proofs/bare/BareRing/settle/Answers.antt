@@ -1,8 +1,6 @@
-use Rattle.std.proofs.Common.{rules, arith, sym, ap, ◌∙◌, refl, inl, inr, subst, List, [], ◌∷◌, length, ◌+◌, ◌<◌, ◌≡◌, ℕ}
+use Rattle.std.proofs.Common.{rules, arith, sym, ap, ◌∙◌, refl, subst, [], ◌∷◌, length, ◌+◌, ◌≡◌}
 use Rattle.ifl_ringcore.specs.State.{Consumer, first_state}
 use Rattle.ifl_ringcore.specs.History.{state_after}
-use Rattle.ifl_base.specs.declared.word.Flag.TheVariants.{Stalled}
-use Rattle.ifl_ringcore.specs.declared.history.Step.TheVariants.{Look}
 use Rattle.ifl_ring.specs.Tells.{MayPart, entry}
 use Rattle.ifl_ring.proofs.Steps.{looks}
 use Rattle.ifl_ring.proofs.Bridge.{look_sized}
@@ -14,7 +12,7 @@ use Rattle.ifl_ring.specs.Calls.{parting}
 use Rattle.ifl_ring.specs.Tally.{drain_rise}
 use Rattle.ifl_ring.specs.Trails.{Trails}
 use Rattle.ifl_ring.proofs.Trails.{trail-after, trail-look, trail-none, trail-release}
-use Rattle.ifl_ring.proofs.Settling.{parked_still, looked_busy, may_give, gave, drives_on, drives_at, left_rests}
+use Rattle.ifl_ring.proofs.Settling.{parked_still, looked_busy, may_give, drives_on, drives_at}
 use Rattle.ifl_ring.proofs.bare.BareRing.settle.Goals as goal
 
 pub loop-init : goal.loop-init

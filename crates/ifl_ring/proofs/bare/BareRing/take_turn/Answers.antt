@@ -1,4 +1,4 @@
-use Rattle.std.proofs.Common.{rules, arith, ap, ◌∙◌, sym, subst, length, ◌+◌, ◌≡◌, ◌≤◌, ◌<◌, ◌⊎◌, ℕ, min}
+use Rattle.std.proofs.Common.{arith, sym, subst, length, ◌+◌, ◌≡◌, ◌≤◌, ◌⊎◌, ℕ}
 use Rattle.ifl_ring.specs.Calls.{IsTotal}
 use Rattle.ifl_ring.proofs.Settling.{total_more, continues, ends}
 use Rattle.ifl_ring.proofs.bare.BareRing.take_turn.Goals as goal
@@ -8,6 +8,9 @@ offer-k-requires-clause-some g c κs within = c.requires.going.1.1
 
 pub offer-k-requires-clause-consuming : goal.offer-k-requires-clause-consuming
 offer-k-requires-clause-consuming g c κs within = c.requires.going.0
+
+pub returns-clause-less : goal.returns-clause-less
+returns-clause-less g c = λ go. let some = (c.goes_on.ensures.yes go).0 in let less = c.offer-k.ensures.less in omega arith
 
 pub returns-clause-turn : goal.returns-clause-turn
 returns-clause-turn g c = λ x total is goes. let o = c.offer-k.ensures.consuming x in let n : ℕ = c.args.round.now.count in let k : ℕ = c.offer-k.result.0 in

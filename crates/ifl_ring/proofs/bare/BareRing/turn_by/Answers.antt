@@ -1,4 +1,4 @@
-use Rattle.std.proofs.Common.{rules, arith, ap, ◌∙◌, ◌<◌, length}
+use Rattle.std.proofs.Common.{arith, ap, ◌∙◌, ◌<◌, length}
 use Rattle.atomic_table.specs.Table.{turned}
 use Rattle.ifl_ring.proofs.Strings.{turned_once}
 use Rattle.ifl_ring.proofs.bare.BareRing.turn_by.Goals as goal

@@ -1,11 +1,8 @@
-use Rattle.std.proofs.Common.{ℕ, ◌≡◌, ◌≢◌, ◌+◌, ◌-◌, ◌<◌, ◌≤◌, ◌⊎◌, ⊎_elim, inl, inr, Bool, false, List, [], ◌++◌, length, take, drop, get_or, slice_index_or, append_assoc, length-append, sym, ap, ◌∙◌, subst, arith}
+use Rattle.std.proofs.Common.{ℕ, ◌≡◌, ◌≢◌, ◌+◌, ◌<◌, ◌≤◌, ⊎_elim, inl, inr, false, [], ◌++◌, length, get_or, append_assoc, length-append, sym, ap, ◌∙◌, arith}
 use Rattle.std.proofs.lemmas.List.{get_or-set_other}
 use Rattle.std.specs.Mem.Slots.{slots_items, slots_filled}
-use mathlib.Core.Option.{some}
 use lib.ListN.{get_elem?}
-use Rattle.ifl_ring.specs.declared.place.Place.{Place}
 use Rattle.ifl_ring.specs.Acts.{item_in}
-use Rattle.ifl_ring.specs.Closed.{items_lying}
 use Rattle.ifl_ring.proofs.Ending.{items_lying-next, emptied_next, one_item}
 use Rattle.ifl_ring.proofs.bare.closing.sweep.Goals as goal
 

@@ -1,7 +1,6 @@
 use Rattle.std.specs.Prelude.{None}
 use Rattle.ifl_ring.specs.declared.place.Place.TheVariants.{Item, Post}
-use Rattle.std.proofs.Common.{ℕ, ◌≡◌, rules, arith, sym, ap, ◌∙◌, refl, ◌+◌, ◌++◌, ◌∷◌, [], replicate}
-use Rattle.std.proofs.lemmas.Grind.{common_steps}
+use Rattle.std.proofs.Common.{ℕ, ◌≡◌, arith, ap, ◌∙◌, ◌+◌, ◌++◌, ◌∷◌, [], replicate}
 use Rattle.ifl_ring.proofs.Opens.{replicate_snoc}
 use Rattle.ifl_ring.proofs.bare.slots.make_slots.Goals as goal
 

@@ -1,4 +1,4 @@
-use Rattle.std.proofs.Common.{◌≡◌, ◌+◌, ◌<◌, replicate, vec_len}
+use Rattle.std.proofs.Common.{◌≡◌, ◌<◌, replicate, vec_len}
 use Rattle.std.specs.Prelude.{vec_capacity, None}
 use Rattle.ifl_ring.specs.declared.place.Place.TheVariants.{Item}
 use Rattle.ifl_ring.proofs.bare.slots.make_slots.Given as goal

@@ -1,9 +1,5 @@
-use Rattle.std.proofs.Common.{rules, ap, sym, ◌∙◌, refl, subst, List}
-use Rattle.ifl_ringcore.specs.declared.history.Entry.{Entry}
+use Rattle.std.proofs.Common.{ap, sym, ◌∙◌}
 use Rattle.ifl_ring.specs.declared.view.Known.{Known}
-use Rattle.ifl_ring.specs.Rings.{SeatState}
-use Rattle.ifl_ring.specs.Calls.{IsChecked}
-use Rattle.ifl_ring.specs.Tells.{Went}
 use Rattle.ifl_ring.proofs.Tallying.{tally-counted}
 use Rattle.ifl_ring.proofs.ring.Ring.check_drainage.Goals as goal
 

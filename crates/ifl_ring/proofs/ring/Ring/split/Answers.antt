@@ -1,4 +1,4 @@
-use Rattle.std.proofs.Common.{rules, arith, ap, sym, ◌∙◌, subst, ℕ, ◌≤◌, ◌≡◌, ◌-◌, ◌/◌}
+use Rattle.std.proofs.Common.{arith, ap, sym, ◌∙◌, subst, ◌≤◌}
 use Rattle.ifl_ringcore.specs.Counters.{capped}
 use Rattle.ifl_ring.specs.declared.view.Known.{Known}
 use Rattle.ifl_ring.specs.Rings.{SeatState}
