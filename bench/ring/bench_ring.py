@@ -1,13 +1,19 @@
 #!/usr/bin/env python3
-"""Times the ring beside the same machine over plain atomics.
+"""Times the ring beside two rings over plain atomics.
 
 Usage: bench/ring/bench_ring.py [COUNT [ROUNDS]]
 
 Makes a workspace in a temporary folder out of the ring's crates and the program in `main.rt.txt`, proves and builds it
-(this takes minutes), and builds `main.rs`, the same word, steps and waiting in Rust with nothing proved, by rustc. Then
-1, 2, 4 and 8 threads put COUNT numbers in all (2,000,000 where none is given) into a ring of 2,048 places, whose drainer
-counts them and adds them up, ROUNDS times (5). It prints the time of one number, from the start of the program to its
-end, least and median, and the ratio of the least ones.
+(this takes minutes), and builds two programs in Rust with nothing proved, by rustc:
+
+- `main.rs` is the same machine with the same calls: the word, steps, waiting, batches, hand-over of items in a queue,
+  answers and counters of the ring.
+- `bare.rs` is the least that can be called this machine: the word and its steps for one number at a time, which is
+  passed by value, with no counters, no refusals' words and no abdication.
+
+Then 1, 2, 4 and 8 threads put COUNT numbers in all (2,000,000 where none is given) into a ring of 2,048 places, whose
+drainer counts them and adds them up, ROUNDS times (9), the three programs in turn. It prints the time of one number, from
+the start of the program to its end, least and median, and the ratios of the medians and of the least times.
 
 Standard library only; no part of the gate.
 """
@@ -24,7 +30,7 @@ sys.path.insert(0, os.path.dirname(HERE))
 import workspace
 
 LAYERS = ("ifl_base", "ifl_outside", "ifl_ringcore", "ifl_ring")
-STANDS_ON = "core atomic_table crossbeam_utils ifl_base ifl_outside ifl_ringcore ifl_ring"
+STANDS_ON = "core atomic_table ifl_base ifl_outside ifl_ringcore ifl_ring"
 PROOFS = {
     "Counter/take/Invariants.antt": "Counter-take-Invariants.antt.txt",
     "put/Invariants.antt": "put-Invariants.antt.txt",
@@ -38,21 +44,38 @@ def seconds(command):
     return time.perf_counter() - start
 
 
+def compare(programs, producers, count, rounds):
+    """The times of one number in nanoseconds, for each program, round by round."""
+    times = {name: [] for name in programs}
+    for _ in range(rounds):
+        for name, program in programs.items():
+            times[name].append(seconds([program, str(producers), str(count)]) / count * 1e9)
+    return times
+
+
+def line(producers, times):
+    """What is printed of the times with so many threads."""
+    least = {name: min(found) for name, found in times.items()}
+    middle = {name: statistics.median(found) for name, found in times.items()}
+    parts = [f"{name} {least[name]:.0f} ns (median {middle[name]:.0f})" for name in times]
+    for name in ("same calls", "bare"):
+        parts.append(f"ring : {name} {least['ring'] / least[name]:.2f} (medians {middle['ring'] / middle[name]:.2f})")
+    return f"{producers} threads: " + ", ".join(parts)
+
+
 def main():
     count = int(sys.argv[1]) if len(sys.argv) > 1 else 2_000_000
-    rounds = int(sys.argv[2]) if len(sys.argv) > 2 else 5
+    rounds = int(sys.argv[2]) if len(sys.argv) > 2 else 9
     with tempfile.TemporaryDirectory() as folder:
         proofs = {place: os.path.join(HERE, file) for place, file in PROOFS.items()}
         crate = workspace.make(folder, LAYERS, "bench_ring", STANDS_ON, os.path.join(HERE, "main.rt.txt"), proofs)
-        ring = workspace.build(crate, ["1", "1000"])
-        plain = workspace.build_plain(os.path.join(HERE, "main.rs"), os.path.join(folder, "plain"))
+        programs = {
+            "ring": workspace.build(crate, ["1", "1000"]),
+            "same calls": workspace.build_plain(os.path.join(HERE, "main.rs"), os.path.join(folder, "same")),
+            "bare": workspace.build_plain(os.path.join(HERE, "bare.rs"), os.path.join(folder, "bare")),
+        }
         for producers in (1, 2, 4, 8):
-            ours, theirs = [], []
-            for _ in range(rounds):
-                ours.append(seconds([ring, str(producers), str(count)]) / count * 1e9)
-                theirs.append(seconds([plain, str(producers), str(count)]) / count * 1e9)
-            print(f"{producers} threads: ring {min(ours):.0f} ns (median {statistics.median(ours):.0f}), "
-                  f"plain {min(theirs):.0f} ns (median {statistics.median(theirs):.0f}), ratio {min(ours) / min(theirs):.2f}")
+            print(line(producers, compare(programs, producers, count, rounds)), flush=True)
 
 
 if __name__ == "__main__":

@@ -1,85 +1,136 @@
-//! The ring's machine over plain atomics: the same word, the same steps and the same waiting, with nothing proved.
+//! The ring with the same calls over plain atomics: the same word, steps, waiting, hand-over of items, answers and
+//! counters, with nothing proved.
 use std::cell::UnsafeCell;
+use std::collections::VecDeque;
 use std::sync::atomic::{AtomicU64, Ordering::SeqCst};
 use std::thread;
 
 const SIZE: u32 = 2048;
-const BUDGET: u64 = 2048;
+const BUDGET: u32 = 2048;
 const LOOKS: u32 = 64;
-const IDLE: u64 = 0;
-const BUSY: u64 = 1;
-const STALLED: u64 = 2;
-const ABDICATED: u64 = 3;
+const PAUSES: u32 = 16;
+const DRAIN_BATCH: usize = 32;
+const UPDATE: u32 = 64;
 
-#[derive(Clone, Copy)]
-struct Word {
-    head: u32,
-    tail: u32,
-    cidx: u32,
-    flag: u64,
+#[derive(Clone, Copy, PartialEq, Eq)]
+enum Flag {
+    Idle,
+    Busy,
+    Stalled,
+    Abdicated,
 }
 
-impl Word {
-    fn of(word: u64) -> Word {
-        Word { head: (word & 0xffff) as u32, tail: (word >> 16 & 0xffff) as u32, cidx: (word >> 32 & 0xffff) as u32, flag: word >> 48 }
+#[derive(Clone, Copy)]
+struct RingWord {
+    head: u16,
+    tail: u16,
+    cidx: u16,
+    flag: Flag,
+}
+
+impl RingWord {
+    fn unpack(word: u64) -> RingWord {
+        let flag = match word >> 48 {
+            0 => Flag::Idle,
+            1 => Flag::Busy,
+            2 => Flag::Stalled,
+            _ => Flag::Abdicated,
+        };
+        RingWord { head: word as u16, tail: (word >> 16) as u16, cidx: (word >> 32) as u16, flag }
     }
 
     fn pack(self) -> u64 {
-        self.head as u64 | (self.tail as u64) << 16 | (self.cidx as u64) << 32 | self.flag << 48
+        self.head as u64 | (self.tail as u64) << 16 | (self.cidx as u64) << 32 | (self.flag as u64) << 48
     }
 }
 
-fn advance(place: u32, n: u32) -> u32 {
-    let next = place + n;
-    if next >= SIZE { next - SIZE } else { next }
+fn advance(size: u32, place: u16, n: u32) -> u16 {
+    let next = place as u32 + n;
+    (if next >= size { next - size } else { next }) as u16
 }
 
-fn distance(from: u32, to: u32) -> u32 {
-    if to >= from { to - from } else { SIZE - from + to }
+fn distance(size: u32, from: u16, to: u16) -> u32 {
+    if to >= from { (to - from) as u32 } else { size - from as u32 + to as u32 }
 }
 
-fn space(w: Word) -> u32 {
-    SIZE - 1 - distance(w.cidx, w.head)
+fn space(size: u32, w: RingWord) -> u32 {
+    size - 1 - distance(size, w.cidx, w.head)
 }
 
-/// What the consumer keeps: a count and a sum.
+#[derive(Clone, Copy, Default)]
+struct Counters {
+    starts: u64,
+    stalls: u64,
+    restarts: u64,
+    abdications: u64,
+    enqueues: u64,
+    drops: u64,
+}
+
+impl Counters {
+    fn drained(&mut self, from: Flag, left: Flag, total: u64) {
+        let restarted = from == Flag::Stalled && total != 0;
+        self.restarts = self.restarts.saturating_add(restarted as u64);
+        let stalled = left == Flag::Stalled && (from != Flag::Stalled || total != 0);
+        self.stalls = self.stalls.saturating_add(stalled as u64);
+        self.abdications = self.abdications.saturating_add((left == Flag::Abdicated) as u64);
+    }
+}
+
+#[allow(dead_code)]
+enum Enqueued {
+    Behind,
+    Abdicated,
+    Drained { left: Flag, total: u64 },
+    NoBuffers { seen: RingWord },
+}
+
+trait Drainer {
+    type Item;
+
+    fn drain(&mut self, batch: &mut VecDeque<Self::Item>) -> u32;
+}
+
 #[derive(Default)]
-struct Drainer {
-    count: u64,
-    sum: u64,
-    batch: Vec<u64>,
+struct Seat {
+    tally: Counters,
 }
 
-impl Drainer {
-    fn drain(&mut self) -> u32 {
-        let n = self.batch.len() as u32;
-        for item in self.batch.drain(..) {
-            self.count += 1;
-            self.sum = self.sum.wrapping_add(item);
-        }
-        n
-    }
+struct Post<D: Drainer> {
+    drainer: D,
+    batch: VecDeque<D::Item>,
 }
 
-struct Ring {
+struct Ring<D: Drainer> {
     word: AtomicU64,
-    slots: Vec<UnsafeCell<Option<u64>>>,
-    drainer: UnsafeCell<Drainer>,
+    size: u32,
+    slots: Vec<UnsafeCell<Option<D::Item>>>,
+    post: UnsafeCell<Post<D>>,
 }
 
 // Each slot has one owner between two steps on the word.
-unsafe impl Sync for Ring {}
+unsafe impl<D: Drainer> Sync for Ring<D> {}
 
-impl Ring {
-    fn look(&self) -> Word {
-        Word::of(self.word.load(SeqCst))
+impl<D: Drainer> Ring<D> {
+    fn new(size: u32, drainer: D) -> Ring<D> {
+        let post = Post { drainer, batch: VecDeque::with_capacity(size as usize) };
+        Ring {
+            word: AtomicU64::new(0),
+            size,
+            slots: (0..size).map(|_| UnsafeCell::new(None)).collect(),
+            post: UnsafeCell::new(post),
+        }
     }
 
-    fn exchange(&self, old: Word, new: Word) -> Result<(), Word> {
-        self.word.compare_exchange(old.pack(), new.pack(), SeqCst, SeqCst).map(|_| ()).map_err(Word::of)
+    fn look(&self) -> RingWord {
+        RingWord::unpack(self.word.load(SeqCst))
     }
 
-    fn claim(&self) -> Option<u32> {
+    fn exchange(&self, old: RingWord, new: RingWord) -> Result<(), RingWord> {
+        self.word.compare_exchange(old.pack(), new.pack(), SeqCst, SeqCst).map(|_| ()).map_err(RingWord::unpack)
+    }
+
+    fn look_for_quiet(&self) -> RingWord {
         let mut seen = self.look();
         for _ in 0..LOOKS {
             if seen.head == seen.tail {
@@ -88,89 +139,145 @@ impl Ring {
             thread::yield_now();
             seen = self.look();
         }
+        seen
+    }
+
+    fn claim(&self, n: u32) -> Result<u16, RingWord> {
+        let mut seen = self.look_for_quiet();
         loop {
-            if space(seen) <= 1 {
-                return None;
+            if space(self.size, seen) <= n {
+                return Err(seen);
             }
-            match self.exchange(seen, Word { head: advance(seen.head, 1), ..seen }) {
-                Ok(()) => return Some(seen.head),
+            match self.exchange(seen, RingWord { head: advance(self.size, seen.head, n), ..seen }) {
+                Ok(()) => return Ok(seen.head),
                 Err(found) => seen = found,
             }
         }
     }
 
-    fn await_turn(&self, place: u32) -> Word {
-        let mut turns = 0u32;
+    fn fill(&self, items: &mut VecDeque<D::Item>, place: u16) {
+        let mut at = place;
+        while let Some(item) = items.pop_front() {
+            unsafe { *self.slots[at as usize].get() = Some(item) };
+            at = advance(self.size, at, 1);
+        }
+    }
+
+    /// The word before, and the one that was set.
+    fn publish(&self, place: u16, n: u32, abdicate: bool) -> (RingWord, RingWord) {
+        let mut waits = 0u32;
+        let mut w = self.look();
         loop {
-            let w = self.look();
             if w.tail == place {
-                return w;
-            }
-            turns += 1;
-            if turns % 16 == 0 {
-                thread::yield_now();
-            } else {
-                std::hint::spin_loop();
-            }
-        }
-    }
-
-    /// Whether the item was taken.
-    fn enqueue(&self, item: u64) -> bool {
-        let Some(place) = self.claim() else { return false };
-        unsafe { *self.slots[place as usize].get() = Some(item) };
-        loop {
-            let w = self.await_turn(place);
-            let tail = advance(w.tail, 1);
-            if self.exchange(w, Word { tail, flag: BUSY, ..w }).is_ok() {
-                if w.flag != BUSY {
-                    self.drain(w.cidx, tail);
+                let flag = match (abdicate, w.flag) {
+                    (false, _) => Flag::Busy,
+                    (true, Flag::Idle) => Flag::Abdicated,
+                    (true, other) => other,
+                };
+                let next = RingWord { tail: advance(self.size, w.tail, n), flag, ..w };
+                match self.exchange(w, next) {
+                    Ok(()) => return (w, next),
+                    Err(found) => w = found,
                 }
-                return true;
+            } else {
+                waits += 1;
+                if waits % PAUSES == 0 {
+                    thread::yield_now();
+                } else {
+                    std::hint::spin_loop();
+                }
+                w = self.look();
             }
         }
     }
 
-    fn drain(&self, mut cidx: u32, mut tail: u32) {
-        let drainer = unsafe { &mut *self.drainer.get() };
+    fn enqueue(&self, seat: &mut Seat, items: &mut VecDeque<D::Item>, budget: u32, abdicate: bool) -> Enqueued {
+        let n = items.len() as u32;
+        let place = match self.claim(n) {
+            Ok(place) => place,
+            Err(seen) => {
+                seat.tally.drops = seat.tally.drops.saturating_add(n as u64);
+                if seen.flag == Flag::Stalled {
+                    self.check_drainage(seat, 0);
+                }
+                return Enqueued::NoBuffers { seen };
+            }
+        };
+        self.fill(items, place);
+        let (found, set) = self.publish(place, n, abdicate);
+        seat.tally.enqueues = seat.tally.enqueues.saturating_add(n as u64);
+        if abdicate {
+            return Enqueued::Abdicated;
+        }
+        if found.flag == Flag::Busy {
+            return Enqueued::Behind;
+        }
+        seat.tally.starts = seat.tally.starts.saturating_add((found.flag == Flag::Idle) as u64);
+        let (left, total) = self.drain(set, budget);
+        seat.tally.drained(found.flag, left, total);
+        Enqueued::Drained { left, total }
+    }
+
+    fn check_drainage(&self, seat: &mut Seat, budget: u32) {
+        let seen = self.look();
+        let left = seen.flag == Flag::Stalled || seen.flag == Flag::Abdicated;
+        if left && seen.head == seen.tail && self.exchange(seen, RingWord { flag: Flag::Busy, ..seen }).is_ok() {
+            let (left, total) = self.drain(seen, budget);
+            seat.tally.drained(seen.flag, left, total);
+        }
+    }
+
+    /// How many items were consumed, and whether the drainer would take no more.
+    fn consume(&self, post: &mut Post<D>, from: RingWord, total: u64, budget: u32) -> (u32, bool) {
+        let mut at = from.cidx;
+        let mut left = distance(self.size, from.cidx, from.tail);
+        let mut count = 0;
+        loop {
+            while left > 0 && post.batch.len() < DRAIN_BATCH {
+                if let Some(item) = unsafe { (*self.slots[at as usize].get()).take() } {
+                    post.batch.push_back(item);
+                }
+                at = advance(self.size, at, 1);
+                left -= 1;
+            }
+            let k = post.drainer.drain(&mut post.batch);
+            count += k;
+            if k == 0 {
+                return (count, true);
+            }
+            let more = left > 0 || !post.batch.is_empty();
+            if !more || count >= UPDATE || total.saturating_add(count as u64) >= budget as u64 {
+                return (count, false);
+            }
+        }
+    }
+
+    fn drain(&self, from: RingWord, budget: u32) -> (Flag, u64) {
+        let post = unsafe { &mut *self.post.get() };
+        let mut from = from;
         let mut total = 0u64;
         loop {
-            let mut at = cidx;
-            let mut pending = 0u32;
-            let mut stalled = false;
-            while at != tail && pending < 64 && (pending == 0 || total < BUDGET) {
-                let n = distance(at, tail).min(32);
-                for i in 0..n {
-                    if let Some(item) = unsafe { (*self.slots[advance(at, i) as usize].get()).take() } {
-                        drainer.batch.push(item);
-                    }
-                }
-                let k = drainer.drain();
-                at = advance(at, k);
-                pending += k;
-                total += k as u64;
-                if k == 0 {
-                    stalled = true;
-                    break;
-                }
-            }
+            let (count, stalled) = self.consume(post, from, total, budget);
+            total = total.saturating_add(count as u64);
+            self.fill(&mut post.batch, advance(self.size, from.cidx, count));
             loop {
                 let w = self.look();
+                let cidx = advance(self.size, w.cidx, count);
                 let flag = if stalled {
-                    STALLED
-                } else if at == w.tail {
-                    IDLE
-                } else if total >= BUDGET && w.tail != w.head {
-                    ABDICATED
+                    Flag::Stalled
+                } else if cidx == w.tail {
+                    Flag::Idle
+                } else if total >= budget as u64 && w.tail != w.head {
+                    Flag::Abdicated
                 } else {
-                    BUSY
+                    Flag::Busy
                 };
-                if self.exchange(w, Word { cidx: at, flag, ..w }).is_ok() {
-                    if flag != BUSY {
-                        return;
+                let next = RingWord { cidx, flag, ..w };
+                if self.exchange(w, next).is_ok() {
+                    if flag != Flag::Busy {
+                        return (flag, total);
                     }
-                    cidx = at;
-                    tail = w.tail;
+                    from = next;
                     break;
                 }
             }
@@ -178,23 +285,49 @@ impl Ring {
     }
 }
 
-fn produce(ring: &Ring, first: u64, items: u64) {
-    for i in 0..items {
-        while !ring.enqueue(first + i) {
+struct Number {
+    tag: u64,
+}
+
+/// A drainer that takes all, counts and adds up.
+#[derive(Default)]
+struct Counter {
+    count: u64,
+    sum: u64,
+}
+
+impl Drainer for Counter {
+    type Item = Number;
+
+    fn drain(&mut self, batch: &mut VecDeque<Number>) -> u32 {
+        let count = batch.len();
+        while let Some(item) = batch.pop_front() {
+            self.count = self.count.wrapping_add(1);
+            self.sum = self.sum.wrapping_add(item.tag);
+        }
+        count as u32
+    }
+}
+
+fn send(ring: &Ring<Counter>, count: u64) -> Seat {
+    let mut seat = Seat::default();
+    let mut items = VecDeque::with_capacity(1);
+    for tag in 0..count {
+        items.push_back(Number { tag });
+        while let Enqueued::NoBuffers { .. } = ring.enqueue(&mut seat, &mut items, BUDGET, false) {
             thread::yield_now();
         }
     }
+    seat
 }
 
 fn main() {
     let producers: u64 = std::env::args().nth(1).and_then(|w| w.parse().ok()).unwrap_or(1);
     let items: u64 = std::env::args().nth(2).and_then(|w| w.parse().ok()).unwrap_or(1000);
-    let ring = Ring { word: AtomicU64::new(0), slots: (0..SIZE).map(|_| UnsafeCell::new(None)).collect(), drainer: UnsafeCell::new(Drainer::default()) };
-    thread::scope(|scope| {
-        for p in 0..producers {
-            let ring = &ring;
-            scope.spawn(move || produce(ring, p * items, items / producers));
-        }
+    let ring = Ring::new(SIZE, Counter::default());
+    let enqueued: u64 = thread::scope(|scope| {
+        let senders: Vec<_> = (0..producers).map(|_| scope.spawn(|| send(&ring, items / producers))).collect();
+        senders.into_iter().map(|sender| sender.join().map_or(0, |seat| seat.tally.enqueues)).sum()
     });
-    println!("{}", ring.drainer.into_inner().count);
+    println!("{enqueued}");
 }
