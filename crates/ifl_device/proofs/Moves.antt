@@ -1,5 +1,5 @@
 -- What several steps of an engine did together.
-use Rattle.std.proofs.Common.{◌≡◌, ℕ, ◌+◌, List, [], ◌∷◌, ◌++◌, length, map, sym, refl, ap, ◌∙◌, arith, append_assoc, length-append}
+use Rattle.std.proofs.Common.{◌≡◌, ℕ, ◌+◌, ◌<◌, List, [], ◌∷◌, ◌++◌, length, map, sym, refl, ap, ◌∙◌, arith, append_assoc, length-append}
 use mathlib.Core.List.{IsPrefix}
 use Rattle.std.specs.List.{flat_map}
 use Rattle.std.proofs.lemmas.List.{map-append}
@@ -40,20 +40,22 @@ looks_then a m b x p y = record {
   still = y.1 ∙ x.still;
 }
 
--- so far: these frames were emitted after one look, and before the first the engine holds what it held
+-- so far: these frames were emitted after one look; before the first the engine holds what it held, and then nothing
 pub record SoFar (a b : EngineSees) (moved : ℕ) : Type 0 where
   pub moves : Moves moved a b
   pub told : IsTold b
   pub lawful : IsEngine b
   pub first : moved ≡ 0 → (b.held ≡ a.held) × (b.device.fetched ≡ a.device.fetched)
+  pub none : 0 < moved → b.held ≡ []
 
-pub moves_on : (a m b : EngineSees) (moved : ℕ) → SoFar a m moved → ((frame : List Desc) × Emits (frame ∷ []) m b) → LooksNot m b → IsTold b → IsEngine b → SoFar a b (moved + 1)
-moves_on a m b moved s f not told lawful =
+pub moves_on : (a m b : EngineSees) (moved : ℕ) → SoFar a m moved → ((frame : List Desc) × Emits (frame ∷ []) m b) → LooksNot m b → IsTold b → b.held ≡ [] → IsEngine b → SoFar a b (moved + 1)
+moves_on a m b moved s f not told none lawful =
     let fs = s.moves.0.0 in let n = s.moves.0.1 in let l = length-append fs (f.0 ∷ []) in record {
       moves = ((fs ++ f.0 ∷ [], (omega arith), emits_both fs (f.0 ∷ []) a m b s.moves.0.2 f.1), looks_then a.device.seen m b s.moves.1 f.1.goes_on not);
       told = told;
       lawful = lawful;
       first = λ z. absurd (omega arith);
+      none = λ _. none;
     }
 
 pub moves_stop : (a m b : EngineSees) (moved : ℕ) → SoFar a m moved → Emits [] m b → LooksNot m b → Moves moved a b
@@ -66,4 +68,4 @@ full_by_itself b need room f = let n = f.1 in let r = f.2 in let l = f.3 in (f.0
 
 -- the engine has looked, and emitted nothing yet
 pub moves_not : (a b : EngineSees) → LooksOnce a.device.seen b.device.seen → Emits [] a b → IsTold b → IsEngine b → (b.held ≡ a.held) × (b.device.fetched ≡ a.device.fetched) → SoFar a b 0
-moves_not a b looked none told lawful same = record { moves = (([], refl, none), looked); told = told; lawful = lawful; first = λ _. same }
+moves_not a b looked none told lawful same = record { moves = (([], refl, none), looked); told = told; lawful = lawful; first = λ _. same; none = λ z. absurd (omega arith) }

@@ -126,6 +126,6 @@ TriedOne a (Full need room) b = Emits [] a b × LooksNot a b × IsFull b need ro
 
 -- what a turn of so many frames did, by its answer
 abbrev pub Turned : EngineSees → ℕ → Turn → EngineSees → Type 0
-Turned a n (Moved k) b = (0 < k) × (k ≤ n) × Moves k a b × (k < n → IsDrained b ⊎ IsFull b (record_size b.held) (left_in b.wire))
+Turned a n (Moved k) b = (0 < k) × (k ≤ n) × Moves k a b × (k < n → IsDrained b ⊎ IsFull b (record_size b.held) (left_in b.wire)) × (k ≡ n → b.held ≡ [])
 Turned a n (Idle doorbell) b = Moves 0 a b × (a.held ≡ []) × IsDrained b × (b.device.fetched ≡ a.device.fetched) × (doorbell ≡ b.device.fetched % b.ring.slots)
 Turned a n (WireFull need room) b = Moves 0 a b × IsFull b need room

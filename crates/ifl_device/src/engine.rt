@@ -123,6 +123,7 @@ impl<'a, R: DescRing> TxEngine<'a, R> {
     /// It answers `Idle` where nothing was rung beyond what was fetched and nothing is held, and `WireFull` where the
     /// first frame's record needs more than the room left; that frame is held, and the next turn tries it again. It
     /// moves fewer frames than asked only where no more was rung at its one look, or the next record does not fit.
+    /// Where it moves as many as asked, it holds nothing at its end.
     pub fn turn(&mut self, frames: u32) -> Turn
         requires { 1 ≤ frames }
         ensures did { Turned self.old frames result self.new }
