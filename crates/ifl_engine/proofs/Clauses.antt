@@ -13,7 +13,7 @@ use Rattle.ifl_engine.specs.Report.{IsGood}
 use Rattle.ifl_engine.specs.Seen.{Seen}
 use Rattle.ifl_engine.specs.Left.{IsStanding}
 use Rattle.ifl_engine.specs.CutShort.{IsCutShort}
-use Rattle.ifl_engine.specs.Answer.{ForFiles, IfSending, IsReported, IsDone, IsStatus, IsCalledFor, Tells, IsAnswer}
+use Rattle.ifl_engine.specs.Answer.{ForFiles, IfSending, IsReported, IsDone, IsStatus, IsCalledFor, Tells, IsReplayed, IsAnswer}
 use Rattle.ifl_engine.proofs.ReadLaws.{for_each, from_files}
 
 pub called_for : (w : Result Work Stop) (status : ℕ) → IsStatus w status → status ≢ 5 → IsCalledFor w status
@@ -52,6 +52,9 @@ clause_untouched files names w before after result h = from_files files (Answeri
 
 pub clause_told : (files : Option Files) (names : Named) (w : Source → Result Work Stop) (before after : Seen) (result : Finished) → ForFiles files (Answering names w before after result) → ¬ Rose before.faults after.faults → result.status ≢ 6 → ForFiles files (λ source. Tells names (w source) result.status before.printed after.printed)
 clause_told files names w before after result h steady ample = for_each files (Answering names w before after result) (λ source. Tells names (w source) result.status before.printed after.printed) (λ source a. is_told names (w source) before after result a steady ample) h
+
+pub clause_replayed : (files : Option Files) (names : Named) (w : Source → Result Work Stop) (before after : Seen) (result : Finished) → ForFiles files (Answering names w before after result) → result.status ≢ 5 → result.status ≢ 6 → ForFiles files (λ source. IsReplayed (w source) result.status before.printed after.printed)
+clause_replayed files names w before after result h b c = for_each files (Answering names w before after result) (λ source. IsReplayed (w source) result.status before.printed after.printed) (λ source a. a.replayed b c) h
 
 pub clause_stopped : (files : Option Files) (names : Named) (w : Source → Result Work Stop) (before after : Seen) (result : Finished) → ForFiles files (Answering names w before after result) → result.status ≢ 0 → result.status ≢ 9 → ForFiles files (λ source. IsCutShort names (w source) before after result)
 clause_stopped files names w before after result h bad legal = for_each files (Answering names w before after result) (λ source. IsCutShort names (w source) before after result) (λ source a. a.stopped bad legal) h

@@ -1,5 +1,5 @@
 -- What was printed by a run that was cut short: a beginning of its ending, and the fault line behind it.
-use Rattle.std.proofs.Common.{◌≡◌, ℕ, ◌≤◌, List, [], ◌++◌, length, take, Option, Some, None, Result, refl, sym, ap, ◌∙◌, arith, inl, inr}
+use Rattle.std.proofs.Common.{◌≡◌, ◌≢◌, ℕ, ◌≤◌, List, [], ◌++◌, length, take, Option, Some, None, Result, Err, refl, sym, ap, ◌∙◌, arith, inl, inr}
 use Rattle.std.specs.Prelude.{IfSome}
 use Rattle.std.proofs.lemmas.List.{append-nil, append_assoc}
 use Rattle.std.proofs.Math.Seq.{take-length}
@@ -56,9 +56,9 @@ broken names Ending why Whole was mid now line begins whole begun is = record {
 
 -- a stop is told, whatever was printed before that
 pub cut_short : (names : Named) (work : Result Work Stop) (report : Option Report) (why : Stop) (before mid after : Seen) (status : ℕ)
-    → IsStopOf work report why → IfSome report (λ r. BothTold before.files mid.files (IsLeft names r why)) → BothTold before.printed mid.printed (Begins why (IsEnding work report)) → (status_of why ≡ 5 → Rose before.faults mid.faults)
+    → IsStopOf work report why → (status_of why ≢ 5 → status_of why ≢ 6 → work ≡ Err why) → IfSome report (λ r. BothTold before.files mid.files (IsLeft names r why)) → BothTold before.printed mid.printed (Begins why (IsEnding work report)) → (status_of why ≡ 5 → Rose before.faults mid.faults)
     → IsTold names why mid after status → IsCutShort names work before after (record { status = status; report = report })
-cut_short names work report why before mid after status here left begun rose told =
+cut_short names work report why before mid after status here called left begun rose told =
     let Whole : Type 0 = (status ≡ 5) × ¬ RoseTwice before.faults after.faults in
     let Broken : List ℕ → List ℕ → Type 0 = IsBroken names (IsEnding work report) why Whole in
     let five : status ≡ 5 → status_of why ≡ 5 = λ is. elim (told.status) [ inl e ↦ sym e ∙ is | inr e ↦ absurd (omega (arith, e, is)) ] in
@@ -66,6 +66,7 @@ cut_short names work report why before mid after status here left begun rose tol
       why = why;
       status = told.status;
       here = here;
+      called = called;
       left = rw told.files left;
       printed = elim (told.line) [
         | inl six ↦ told_then before.printed mid.printed after.printed _ _ Broken (λ x y z b t. broken names (IsEnding work report) why Whole x y z (take t.0 (line_of names why)) (t.0, refl) (λ w. absurd (omega (arith, w.0, six))) b t.1) begun told.begun
@@ -88,6 +89,7 @@ moved names work before mid after result files printed later h =
       why = h.why;
       status = h.status;
       here = h.here;
+      called = h.called;
       left = rw files at h.left;
       printed = told_then before.printed mid.printed after.printed _ (Broken mid) (Broken before) (λ x y z same b. record {
         part = b.part;

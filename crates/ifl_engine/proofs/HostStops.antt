@@ -53,5 +53,6 @@ write_stopped names max_frame captures r why before mid after status good fault 
       left = rw told.files standing;
       untouched = λ none. absurd cc;
       told = λ b c. elim s [ inl five ↦ absurd (b five) | inr six ↦ absurd (c six) ];
-      stopped = λ bad legal. cut_short names (Ok (sending names max_frame captures)) (Some r) why before mid after status tt left begun rose told;
+      replayed = λ b c. tt;
+      stopped = λ bad legal. cut_short names (Ok (sending names max_frame captures)) (Some r) why before mid after status tt (λ b c. elim cause [ inl five ↦ absurd (b five.0) | inr six ↦ absurd (c six) ]) left begun rose told;
     }

@@ -8,7 +8,7 @@ use Rattle.ifl_engine.specs.declared.stop.Stop.{Stop}
 use Rattle.ifl_engine.specs.Words.{Named, send, trace}
 use Rattle.ifl_engine.specs.Wanted.{Source, Load, Work, sending, tracing, file_at, read_of, work_of, names_asked}
 use Rattle.ifl_engine.specs.Seen.{Seen}
-use Rattle.ifl_engine.specs.Answer.{IsDone, Tells, IsAnswer}
+use Rattle.ifl_engine.specs.Answer.{IsDone, Tells, IsReplayed, IsAnswer}
 use Rattle.ifl_engine.proofs.CutShort.{moved}
 use Rattle.ifl_engine.proofs.Stopping.{as_work, as_replay, risen_late}
 
@@ -30,6 +30,7 @@ since names w before mid after result files printed later h = record {
     | inl rose ↦ inl (risen_late before.faults mid.faults after.faults later rose)
     | inr line ↦ inr (subst (λ (p : Option (List ℕ)). Tells names w result.status p after.printed) printed line)
   ];
+  replayed = λ b c. subst (λ (p : Option (List ℕ)). IsReplayed w result.status p after.printed) printed (h.replayed b c);
   stopped = λ bad legal. moved names w before mid after result files printed later (h.stopped bad legal);
 }
 

@@ -10,7 +10,7 @@ use Rattle.ifl_engine.specs.declared.stop.Input.TheVariants as input
 use Rattle.ifl_engine.specs.Words.{Named, send, trace}
 use Rattle.ifl_engine.specs.Wanted.{Source, Load, Work, sending, tracing, ◌>>=◌, file_at, read_of, work_of, status_of, line_of, names_asked}
 use Rattle.ifl_engine.specs.Seen.{Seen}
-use Rattle.ifl_engine.specs.Answer.{CallsFor, IsStatus, Tells, IsAnswer}
+use Rattle.ifl_engine.specs.Answer.{CallsFor, IsStatus, Tells, IsReplayed, IsAnswer}
 use Rattle.ifl_engine.specs.Steps.{IsRead, IsReadFailure, IsTold}
 use Rattle.ifl_engine.specs.CutShort.{IsEnding, IsStopOf}
 use Rattle.ifl_engine.proofs.ReadLaws.{bytes_of}
@@ -58,7 +58,8 @@ stopped names w why before mid after status is some other files printed later to
       | inr line ↦ inr (subst (λ (v : Result Work Stop). Tells names v status before.printed after.printed) (sym is) (subst (λ (p : Option (List ℕ)). BothTold p after.printed (λ (was now : List ℕ). now ≡ was ++ line_of names why)) printed line))
     ]
   ];
-  stopped = λ bad legal. cut_short names w None why before mid after status (early w why other) tt (begins_empty why (IsEnding w None) before.printed mid.printed printed) (λ five. absurd (other five)) told;
+  replayed = λ b c. subst (λ (v : Result Work Stop). IsReplayed v status before.printed after.printed) (sym is) tt;
+  stopped = λ bad legal. cut_short names w None why before mid after status (early w why other) (λ b c. is) tt (begins_empty why (IsEnding w None) before.printed mid.printed printed) (λ five. absurd (other five)) told;
 }
 
 -- a call of the host failed, or memory ran out
@@ -76,7 +77,8 @@ gave_up names w why before mid after status which here rose files begun later to
       left = tt;
       untouched = λ none. told.files ∙ files;
       told = λ b c. elim s [ inl five ↦ absurd (b five) | inr six ↦ absurd (c six) ];
-      stopped = λ bad legal. cut_short names w None why before mid after status here tt begun rose told;
+      replayed = λ b c. elim s [ inl five ↦ absurd (b five) | inr six ↦ absurd (c six) ];
+      stopped = λ bad legal. cut_short names w None why before mid after status here (λ b c. elim which [ inl five ↦ absurd (b five) | inr six ↦ absurd (c six) ]) tt begun rose told;
     }
 
 abbrev pub as_work : Named → Result Load Stop → Result Work Stop

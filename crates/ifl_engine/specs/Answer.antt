@@ -1,5 +1,5 @@
 -- What a run answers, and what it does to its host.
-use Rattle.std.specs.Prelude.{◌≡◌, ◌≢◌, ◌≤◌, ◌⊎◌, ℕ, List, ◌++◌, Option, Some, None, Result, Ok, Err, IfSome, IsSome, IsNone}
+use Rattle.std.specs.Prelude.{◌≡◌, ◌≢◌, ◌≤◌, ◌⊎◌, ℕ, List, ◌++◌, take, Option, Some, None, Result, Ok, Err, IfSome, IsSome, IsNone}
 use Rattle.ifl_outside.specs.Files.{Files, held}
 use Rattle.ifl_outside.specs.Told.{BothTold}
 use Rattle.ifl_outside.specs.Causes.{Rose}
@@ -63,6 +63,14 @@ Tells names (Ok (sending _ max_frame captures)) status was now = Unit {0}
 Tells names (Ok (tracing schedule)) status was now = BothTold was now (λ was now. (text : List ℕ) × IsReplay schedule text status × (now ≡ was ++ text))
 Tells names (Err why) status was now = BothTold was now (λ was now. now ≡ was ++ line_of names why)
 
+-- what a replay of that status printed, whether or not the host failed: all of it at status 0, and else its beginning
+abbrev pub IsReplayed : Result Work Stop → ℕ → Option (List ℕ) → Option (List ℕ) → Type 0
+IsReplayed (Ok (sending names max_frame captures)) status was now = Unit {0}
+IsReplayed (Ok (tracing schedule)) status was now = (text : List ℕ) × IsReplay schedule text status
+    × (status ≡ 0 → BothTold was now (λ was now. now ≡ was ++ text))
+    × BothTold was now (λ was now. (k : ℕ) × (now ≡ was ++ take k text))
+IsReplayed (Err why) status was now = Unit {0}
+
 -- the answer to what is wanted, under these names
 pub record IsAnswer (names : Named) (work : Result Work Stop) (before after : Seen) (result : Finished) : Type 0 where
   -- each status has its cause
@@ -80,5 +88,7 @@ pub record IsAnswer (names : Named) (work : Result Work Stop) (before after : Se
   pub untouched : IsNone result.report → after.files ≡ before.files
   -- a fault line is printed
   pub told : result.status ≢ 5 → result.status ≢ 6 → Rose before.faults after.faults ⊎ Tells names work result.status before.printed after.printed
+  -- a replay that was not cut short was printed
+  pub replayed : result.status ≢ 5 → result.status ≢ 6 → IsReplayed work result.status before.printed after.printed
   -- what was printed by a run that was cut short
   pub stopped : result.status ≢ 0 → result.status ≢ 9 → IsCutShort names work before after result

@@ -1,5 +1,5 @@
 -- A run that was cut short: what stopped it, and what was printed by then.
-use Rattle.std.specs.Prelude.{◌≡◌, ◌+◌, ◌-◌, ◌^◌, ◌≤◌, ◌⊎◌, ℕ, min, List, [], ◌++◌, take, Option, Some, None, Result, Ok, Err, IfSome, IsSomeAnd}
+use Rattle.std.specs.Prelude.{◌≡◌, ◌≢◌, ◌+◌, ◌-◌, ◌^◌, ◌≤◌, ◌⊎◌, ℕ, min, List, [], ◌++◌, take, Option, Some, None, Result, Ok, Err, IfSome, IsSomeAnd}
 use Rattle.ifl_outside.specs.Told.{BothTold}
 use Rattle.ifl_engine.specs.declared.report.Report.{Report}
 use Rattle.ifl_engine.specs.declared.report.Finished.{Finished}
@@ -57,6 +57,8 @@ pub record IsCutShort (names : Named) (work : Result Work Stop) (before after : 
   pub why : Stop
   pub status : (result.status ≡ status_of why) ⊎ (result.status ≡ 6)
   pub here : IsStopOf work result.report why
+  -- it is what the words and the files call for, unless the host failed or memory ran out
+  pub called : status_of why ≢ 5 → status_of why ≢ 6 → work ≡ Err why
   -- what stands in the files is what that stop leaves
   pub left : IfSome result.report (λ r. BothTold before.files after.files (IsLeft names r why))
   -- where the host failed once only, the fault line was printed whole

@@ -9,7 +9,7 @@ ghost use Rattle.ifl_engine.specs.Wanted.{sending, wanted, work_of, names_in};
 ghost use Rattle.ifl_engine.specs.Seen.{seen};
 ghost use Rattle.ifl_engine.specs.Left.{IsStanding};
 ghost use Rattle.ifl_engine.specs.CutShort.{IsCutShort};
-ghost use Rattle.ifl_engine.specs.Answer.{ForFiles, IsAnswer, IsDone, IfSending, IsReported, IsStatus, IsCalledFor, IsByWords, Tells};
+ghost use Rattle.ifl_engine.specs.Answer.{ForFiles, IsAnswer, IsDone, IfSending, IsReported, IsReplayed, IsStatus, IsCalledFor, IsByWords, Tells};
 ghost use Rattle.ifl_engine.specs.Steps.{IsSmall, IsTold};
 
 use crate::plain::report_of;
@@ -150,6 +150,10 @@ pub fn run<R: Threads + Wait, H: Host, G: Gate>(
 
     // Without a report no file was written.
     ensures untouched { IsNone result.report → H.files host.new ≡ H.files host.old }
+
+    // At status 0 a replay was printed whole, and at status 9 its beginning was, also where the host has failed.
+    ensures replayed { result.status ≢ 5 → result.status ≢ 6 → ForFiles (H.files host.old) (λ source. IsReplayed (wanted (map string_bytes words.now) source) result.status
+        (H.printed host.old) (H.printed host.new)) }
 
     // A run that was stopped printed the beginning of its ending, if that print failed, and behind it its fault line.
     ensures stopped { result.status ≢ 0 → result.status ≢ 9 → ForFiles (H.files host.old) (λ source. IsCutShort (names_in (map string_bytes words.now)) (wanted (map string_bytes words.now) source)

@@ -7,7 +7,7 @@ ghost use Rattle.ifl_engine.specs.Tracing.{IsReplay};
 ghost use Rattle.ifl_engine.specs.Wanted.{tracing, names_asked, names_or_none, only_trace, work_of, wanted_by};
 ghost use Rattle.ifl_engine.specs.Seen.{seen};
 ghost use Rattle.ifl_engine.specs.CutShort.{IsCutShort};
-ghost use Rattle.ifl_engine.specs.Answer.{ForFiles, IsAnswer, IsStatus, IsCalledFor, IsByWords, Tells};
+ghost use Rattle.ifl_engine.specs.Answer.{ForFiles, IsAnswer, IsReplayed, IsStatus, IsCalledFor, IsByWords, Tells};
 
 use crate::reading::read_file;
 use crate::stop::{Input, Stop};
@@ -120,6 +120,10 @@ pub fn run_trace<H: Host>(alloc: Global, words: &[String], host: &mut H) -> u8
 
     // No file is written.
     ensures untouched { H.files host.new ≡ H.files host.old }
+
+    // At status 0 the replay was printed whole, and at status 9 its beginning was, also where the host has failed.
+    ensures replayed { result ≢ 5 → result ≢ 6 → ForFiles (H.files host.old) (λ source. IsReplayed (wanted_by (only_trace (asked_by_words (map string_bytes words.now))) source) result
+        (H.printed host.old) (H.printed host.new)) }
 
     // A call that was stopped printed the beginning of its replay, if that print failed, and behind it its fault line.
     ensures stopped { result ≢ 0 → result ≢ 9 → ForFiles (H.files host.old) (λ source. IsCutShort (names_or_none (only_trace (asked_by_words (map string_bytes words.now)))) (wanted_by (only_trace (asked_by_words (map string_bytes words.now))) source)

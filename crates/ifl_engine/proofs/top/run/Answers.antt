@@ -2,7 +2,7 @@ use Rattle.std.proofs.Common.{map}
 use Rattle.std.specs.String.{string_bytes}
 use Rattle.ifl_engine.specs.Seen.{seen}
 use Rattle.ifl_engine.specs.Wanted.{names_in, wanted}
-use Rattle.ifl_engine.proofs.Clauses.{clause_status, clause_failed, clause_complete, clause_good, clause_there, clause_done, clause_untouched, clause_left, clause_stopped, clause_told}
+use Rattle.ifl_engine.proofs.Clauses.{clause_status, clause_failed, clause_complete, clause_good, clause_there, clause_done, clause_untouched, clause_left, clause_replayed, clause_stopped, clause_told}
 use Rattle.ifl_engine.proofs.top.run.Goals as goal
 
 pub returns-clause-status : goal.returns-clause-status
@@ -43,6 +43,11 @@ returns-clause-untouched g c =
 pub returns-clause-told : goal.returns-clause-told
 returns-clause-told g c =
     clause_told (g.H.Host.files c.args.host.now) (names_in (map string_bytes c.args.words.now)) (wanted (map string_bytes c.args.words.now)) (seen g.H.Host.faults g.H.Host.files g.H.Host.printed c.args.host.now)
+    (seen g.H.Host.faults g.H.Host.files g.H.Host.printed c.answer.new.host) c.answer.result c.answer.ensures.answer
+
+pub returns-clause-replayed : goal.returns-clause-replayed
+returns-clause-replayed g c =
+    clause_replayed (g.H.Host.files c.args.host.now) (names_in (map string_bytes c.args.words.now)) (wanted (map string_bytes c.args.words.now)) (seen g.H.Host.faults g.H.Host.files g.H.Host.printed c.args.host.now)
     (seen g.H.Host.faults g.H.Host.files g.H.Host.printed c.answer.new.host) c.answer.result c.answer.ensures.answer
 
 pub returns-clause-stopped : goal.returns-clause-stopped
