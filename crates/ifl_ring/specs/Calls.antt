@@ -100,9 +100,17 @@ IsChecked budget (checked.Lost seen) es = (w : RingWord) × (e : Entry) × (f : 
 IsChecked budget (checked.Drained left total) es = (w : RingWord) × (e : Entry) × (f : Entry) × (drained : List Entry)
     × (es ≡ e ∷ f ∷ drained) × Finds Look w e × IsLeft w × Finds (TakeOver budget) w f × IsDrain left total drained
 
--- n items were refused in this word
+-- looks, and then n items were refused in this word
+abbrev pub EndsRefused : ℕ → RingWord → List Entry → Type 0
+EndsRefused n seen es = (before : List Entry) × (e : Entry) × (es ≡ before ++ e ∷ []) × AreLooks before × Finds (Refuse n) seen e
+
+-- behind a refusal: a look for items that were left, with a budget of nothing, where the word said stalled
+abbrev pub IsRelieved : RingWord → List Entry → Type 0
+IsRelieved seen es = (seen.flag ≡ Stalled → (got : Checked) × IsChecked 0 got es) × (seen.flag ≢ Stalled → es ≡ [])
+
+-- looks, a refusal of n items in this word, and what comes behind one
 abbrev pub IsRefused : ℕ → RingWord → List Entry → Type 0
-IsRefused n seen es = (before : List Entry) × (e : Entry) × (behind_it : List Entry) × (es ≡ before ++ e ∷ behind_it) × Finds (Refuse n) seen e
+IsRefused n seen es = (before : List Entry) × (e : Entry) × (behind_it : List Entry) × (es ≡ before ++ e ∷ behind_it) × AreLooks before × Finds (Refuse n) seen e × IsRelieved seen behind_it
 
 -- the seat published these items as a consumer, and drained
 abbrev pub IsElected : ℕ → List Meaning → Flag → ℕ → List Entry → Type 0

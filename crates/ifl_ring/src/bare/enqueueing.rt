@@ -6,7 +6,7 @@ ghost use Rattle.ifl_base.specs.Word.{IsWithin};
 ghost use Rattle.ifl_ringcore.specs.Counters.{capped, nothing_counted};
 ghost use Rattle.ifl_ringcore.specs.declared.counters.Counters.{Counters};
 ghost use Rattle.ifl_ring.specs.Acts.{items_in};
-ghost use Rattle.ifl_ring.specs.Calls.{AreHandedOver, AreLooks, IsDelivered, IsEnqueued, publishing};
+ghost use Rattle.ifl_ring.specs.Calls.{AreHandedOver, AreLooks, IsDelivered, IsEnqueued, IsRelieved, publishing};
 ghost use Rattle.ifl_ring.specs.Law.{Rests};
 ghost use Rattle.ifl_ring.specs.Publishing.{IsPublished, IsConsumer};
 ghost use Rattle.ifl_ring.specs.Tells.{HasTurn, HoldsAt, Looks, Same};
@@ -137,7 +137,7 @@ impl<D: Drainer> BareRing<D> {
         requires lived { IsLived self.now.size seat.old.me.0.known }
         ensures same { (seat.new.table_id ≡ seat.old.table_id) × (seat.new.id ≡ seat.old.id) }
         ensures rest { Rests seat.new.me }
-        ensures trail { (es : _) × (publishing es ≡ []) × Trails self.now.size seat.old.me.0.known es result seat.new.me.0.known }
+        ensures trail { (es : _) × (publishing es ≡ []) × IsRelieved seen.now es × Trails self.now.size seat.old.me.0.known es result seat.new.me.0.known }
     {
         if is_stalled(seen.flag) {
             self.check(rt, seat, 0).1

@@ -23,7 +23,7 @@ returns-in-Err-clause-err g c = let q = c.look_for_quiet-seen.ensures.trail in l
   (
     q.0 ++ (i.0 ++ e ∷ []),
     publishing-last q.0 i.0 e q.1 i.1 (ap publishes r.1.1.0),
-    (q.0 ++ i.0, e, [], sym (append_assoc q.0 i.0 (e ∷ [])), r.1.1),
+    (q.0 ++ i.0, e, sym (append_assoc q.0 i.0 (e ∷ [])), looks-append q.0 i.0 q.1 i.1, r.1.1),
     trail-after _ c.args.seat.now.me.0.known _ _ q.0 (i.0 ++ e ∷ []) _ q.2 (trail-after _ _ _ _ i.0 (e ∷ []) _ i.2 r.1.2),
   ),
 )

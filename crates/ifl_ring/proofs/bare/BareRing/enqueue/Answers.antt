@@ -40,9 +40,9 @@ returns-in-Err-clause-went g c = let r = c.in-Err.ensures.err in let q = r.2 in 
       plus up c.relieve-relieved.result,
       (
         publishing-append q.0 f.0 ∙ (λ i. q.1 i ++ f.1 i),
-        (q.2.0, q.2.1, q.2.2 ++ f.0, ap (λ (z : List Entry). z ++ f.0) q.2.3 ∙ append_assoc q.2.0 (q.2.1 ∷ q.2.2) f.0, (q.2.4.0 ∙ ap Refuse n, q.2.4.1)),
+        (q.2.0, q.2.1, f.0, ap (λ (z : List Entry). z ++ f.0) q.2.2 ∙ append_assoc q.2.0 (q.2.1 ∷ []) f.0, q.2.3, (q.2.4.0 ∙ ap Refuse n, q.2.4.1), f.2),
         subst (λ (z : ℕ). space c.args.self.now.size c.in-Err.seen ≤ z) n r.1,
       ),
-      trail-more _ c.args.seat.now.me.0.known _ _ q.0 f.0 up c.relieve-relieved.result q.3 f.2,
+      trail-more _ c.args.seat.now.me.0.known _ _ q.0 f.0 up c.relieve-relieved.result q.3 f.3,
       c.plus.ensures ∙ ap (λ (z : Counters). capped (plus z c.relieve-relieved.result)) c.refused.ensures,
     )
