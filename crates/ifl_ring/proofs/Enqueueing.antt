@@ -1,19 +1,17 @@
 -- What a seat publishes, and what this counts.
-use Rattle.std.proofs.Common.{true, false, ◌≡◌, ℕ, ◌<◌, ◌≤◌, List, [], ◌∷◌, ◌++◌, length, map, sym, refl, ap, ◌∙◌, subst, arith}
+use Rattle.std.proofs.Common.{true, false, ◌≡◌, ℕ, ◌<◌, ◌≤◌, List, [], ◌∷◌, ◌++◌, length, map, sym, refl, ap, ◌∙◌, subst}
 use Rattle.atomic_table.specs.Table.{Me}
 use Rattle.ifl_base.specs.declared.word.Flag.{Flag}
 use Rattle.ifl_base.specs.declared.word.RingWord.{RingWord}
 use Rattle.ifl_base.specs.Word.{IsWithin, pack}
-use Rattle.std.proofs.Common.{Bool, ◌^◌, append_assoc}
+use Rattle.std.proofs.Common.{Bool, append_assoc}
 use Rattle.std.specs.Prelude.{Some, None}
 use Rattle.ifl_ring.specs.declared.answers.Enqueued.{Enqueued}
 use Rattle.ifl_ring.specs.declared.answers.Enqueued.TheVariants as answer
 use Rattle.ifl_ringcore.specs.declared.history.Step.{Step}
-use Rattle.ifl_ringcore.proofs.Counting.{same-counters}
 use Rattle.ifl_ring.specs.Calls.{AreHandedOver, AreLooks, IsDelivered, IsEnqueued, publishes, publishing}
 use Rattle.ifl_ring.proofs.Claiming.{publishing-append, publishing-looks}
-use Rattle.ifl_ringcore.specs.Counters.{capped, nothing_counted, one_if, is_idle}
-use Rattle.ifl_ringcore.specs.declared.counters.Counters.{Counters}
+use Rattle.ifl_ringcore.specs.Counters.{nothing_counted, one_if, is_idle}
 use Rattle.ifl_ringcore.specs.declared.history.Entry.{Entry}
 use Rattle.ifl_ringcore.specs.declared.history.Meaning.{Meaning}
 use Rattle.ifl_ringcore.specs.declared.history.Step.TheVariants as step
@@ -68,9 +66,6 @@ pub publishing-one : (s : Step) (es fs : List Entry) (e : Entry) → AreLooks es
 publishing-one s es fs e quiet is aye none = let here : publishes e.event ≡ true = ap publishes is ∙ aye in
     publishing-append es (e ∷ fs) ∙ ap (λ (z : List Step). z ++ publishing (e ∷ fs)) (publishing-looks es quiet) ∙ (let f : publishing (e ∷ fs) ≡ e.event ∷ publishing fs = rw here refl in f) ∙ (λ i. is i ∷ none i)
 
-pub capped-published : (n : ℕ) → n < 2 ^ 32 → capped record nothing_counted { enqueues = n } ≡ record nothing_counted { enqueues = n }
-capped-published n small = same-counters (capped record nothing_counted { enqueues = n }) record nothing_counted { enqueues = n } (omega arith) (omega arith) (omega arith) (omega arith) (omega arith) (omega arith)
-
 -- the reservation's places, with items laid into them
 pub holds-laid : {I D O : Type 0} (size n at : ℕ) (items : List I) (m m' : Me (Place I D) (View O)) (p : HasPlaces size n at m) → length items ≡ n → m'.0 ≡ m.0 → m'.1 ≡ [] ++ laid size p.start items [] → HoldsAt size n at m'
 holds-laid {I = I} {D = D} {O = O} size n at items m m' p count view out = (
@@ -105,6 +100,3 @@ handed-over answer.Behind before after_it d e = e
 handed-over answer.Abdicated before after_it d e = e
 handed-over (answer.Drained left total) before after_it d e = e
 handed-over (answer.NoBuffers seen) before after_it d e = absurd d
-
-pub capped-twice : (a b : Counters) → a ≡ capped b → capped a ≡ capped b
-capped-twice a b e = ap capped e ∙ same-counters (capped (capped b)) (capped b) (omega arith) (omega arith) (omega arith) (omega arith) (omega arith) (omega arith)

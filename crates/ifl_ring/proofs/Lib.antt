@@ -1,5 +1,6 @@
 pub mod Steps
 pub mod Rests
+pub mod Rising
 pub mod Slots
 pub mod Reserving
 pub mod Laid

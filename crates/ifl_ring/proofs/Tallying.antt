@@ -6,10 +6,10 @@ use Rattle.ifl_ringcore.specs.Counters.{nothing_counted, plus, capped, rise, cou
 use Rattle.ifl_ringcore.specs.Effects.{effect}
 use Rattle.ifl_ringcore.specs.History.{own}
 use Rattle.ifl_ringcore.specs.State.{RingState, first_state}
-use Rattle.ifl_ringcore.proofs.Counting.{same-counters, capped-plus, plus-nothing}
+use Rattle.ifl_ringcore.proofs.Counting.{same-counters, plus-nothing}
 use Rattle.ifl_ring.specs.declared.view.Known.{Known}
 use Rattle.ifl_ring.specs.Law.{has, Has, Begins, Complete}
-use Rattle.ifl_ring.specs.Tally.{tally_of}
+use Rattle.ifl_ring.specs.Tally.{tally_of, TallyRises}
 use Rattle.ifl_ring.specs.Tells.{entry, Joined, Looked, Names}
 use Rattle.ifl_base.specs.Word.{pack}
 use Rattle.ifl_base.specs.declared.word.RingWord.{RingWord}
@@ -69,17 +69,13 @@ tally-named size v w n = ap (λ (z : List ℕ). counters_among (λ k. has k z) f
 pub capped-nothing : capped nothing_counted ≡ nothing_counted
 capped-nothing = same-counters (capped nothing_counted) nothing_counted (omega arith) (omega arith) (omega arith) (omega arith) (omega arith) (omega arith)
 
--- the tally with what a call counted is the tally after it
-pub tally-counted : (size : ℕ) (old new counted : Counters) (v w : Known) (es : List Entry) → old ≡ capped (tally_of v) → Trails size v es counted w → new ≡ capped (plus old counted) → new ≡ capped (tally_of w)
-tally-counted size old new counted v w es is t next = next ∙ ap (λ (z : Counters). capped (plus z counted)) is ∙ capped-plus (tally_of v) counted ∙ ap capped (sym t.1)
+-- the tally after a call, which rose by what the call counted
+pub tally-risen : (size : ℕ) (a b x : Counters) (v w : Known) (es : List Entry) → a ≡ capped (tally_of v) → Trails size v es x w → TallyRises x a b → b ≡ capped (tally_of w)
+tally-risen size a b x v w es is t rises = rises (tally_of v) is ∙ ap capped (sym t.1)
 
 -- both parts may have been capped before
 pub capped-both : (a b : Counters) → capped (plus (capped a) (capped b)) ≡ capped (plus a b)
 capped-both a b = same-counters (capped (plus (capped a) (capped b))) (capped (plus a b)) (omega arith) (omega arith) (omega arith) (omega arith) (omega arith) (omega arith)
-
--- the same, where what the call counted may have been capped
-pub tally-capped : (size : ℕ) (old new counted : Counters) (v w : Known) (es : List Entry) (x : Counters) → old ≡ capped (tally_of v) → Trails size v es x w → counted ≡ capped x → new ≡ capped (plus old counted) → new ≡ capped (tally_of w)
-tally-capped size old new counted v w es x is t seen next = next ∙ (λ i. capped (plus (is i) (seen i))) ∙ capped-both (tally_of v) x ∙ ap capped (sym t.1)
 
 -- a look counts nothing
 pub tally-looked : (size : ℕ) (tally : Counters) (v : Known) (word : RingWord) (w : Known) → Has v.number v.stands → tally ≡ capped (tally_of v) → Looked size v word w → tally ≡ capped (tally_of w)

@@ -3,7 +3,7 @@ use Rattle.std.specs.Prelude.{◌≡◌, ℕ, ◌&&◌, nat_eq, not}
 use Rattle.ifl_base.specs.declared.word.Flag.{Flag}
 use Rattle.ifl_base.specs.declared.word.Flag.TheVariants.{Idle, Busy, Stalled, Abdicated}
 use Rattle.ifl_ringcore.specs.declared.counters.Counters.{Counters}
-use Rattle.ifl_ringcore.specs.Counters.{nothing_counted, plus, one_if, is_stalled, counters_among}
+use Rattle.ifl_ringcore.specs.Counters.{capped, nothing_counted, plus, one_if, is_stalled, counters_among}
 use Rattle.ifl_ringcore.specs.State.{first_state}
 use Rattle.ifl_ring.specs.declared.view.Known.{Known}
 use Rattle.ifl_ring.specs.Law.{has}
@@ -15,6 +15,10 @@ tally_of v = counters_among (λ k. has k v.stands) first_state v.seen
 -- the seat counts so much more
 abbrev pub Counts : Counters → Known → Known → Type 0
 Counts x v w = tally_of w ≡ plus (tally_of v) x
+
+-- a tally that holds whatever was counted, as far as 64 bits can, holds so much more
+abbrev pub TallyRises : Counters → Counters → Counters → Type 0
+TallyRises x a b = (counted : Counters) → a ≡ capped counted → b ≡ capped (plus counted x)
 
 -- what a drain counts that began from a flag, released so many items and sets a flag
 abbrev pub drain_rise : Flag → Flag → ℕ → Counters

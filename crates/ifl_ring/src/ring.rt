@@ -15,7 +15,6 @@ ghost use Rattle.ifl_ringcore.specs.State.{first_state};
 use crate::answers::{Checked, Enqueued, RingFault};
 use crate::bare::{BareRing, BareSeat, drainer_of, make_slots};
 use crate::closed::ClosedRing;
-use crate::counted::nothing;
 use crate::drainer::{Drainer, RingItem};
 use crate::place::Sheet;
 use crate::view::Known;
@@ -121,7 +120,7 @@ impl<D: Drainer> Ring<D> {
                 let seat = Seat {
                     seat,
                     part: PART,
-                    tally: nothing(),
+                    tally: Counters::NOTHING,
                 };
                 Ok((Ring { bare }, seat))
             }
@@ -147,7 +146,7 @@ impl<D: Drainer> Ring<D> {
         Seat {
             seat: new,
             part: half,
-            tally: nothing(),
+            tally: Counters::NOTHING,
         }
     }
 
@@ -184,9 +183,7 @@ impl<D: Drainer> Ring<D> {
         ensures own { seat.new.table ≡ seat.old.table }
         ensures answer { (es : _) × Went self.now.size seat.old.known es seat.new.known × IsChecked budget result es }
     {
-        let (checked, counters) = self.bare.check(rt, &mut seat.seat, budget);
-        seat.tally = seat.tally.plus(&counters);
-        checked
+        self.bare.check(rt, &mut seat.seat, budget, &mut seat.tally)
     }
 
     /// Publishes 1 to `MAX_BATCH` items, and consumes with a budget of at most 65,535 items where no consumer is
@@ -212,11 +209,16 @@ impl<D: Drainer> Ring<D> {
         ensures items { AreHandedOver result items.old.items items.new.items }
         ensures room { deque_capacity items.old ≤ deque_capacity items.new }
     {
-        let (enqueued, counters) = self
-            .bare
-            .enqueue(rt, &mut seat.seat, who, items, budget, abdicate, gate);
-        seat.tally = seat.tally.plus(&counters);
-        enqueued
+        self.bare.enqueue(
+            rt,
+            &mut seat.seat,
+            who,
+            items,
+            budget,
+            abdicate,
+            gate,
+            &mut seat.tally,
+        )
     }
 
     /// Ends the ring with its whole seat. The items that are left lie in the closed ring, in room that

@@ -4,7 +4,9 @@ ghost use Rattle.ifl_ring.specs.Tells.{Looks, Looked, Names, Joined, Reserves, S
 ghost use Rattle.ifl_ring.specs.Draining.{Drives, Consuming, EndsRound, GoesOn, IsOver};
 ghost use Rattle.ifl_ring.specs.Calls.{IsChecked};
 ghost use Rattle.ifl_ring.specs.Law.{Rests};
+ghost use Rattle.ifl_ring.specs.Tally.{TallyRises};
 ghost use Rattle.ifl_ring.specs.Trails.{Trails};
+ghost use Rattle.ifl_ringcore.specs.declared.counters.Counters.{Counters};
 ghost use Rattle.ifl_ring.specs.Acts.{out_all, laid, items_in, IsOpening, IsPostFirst, IsItemFirst, InFront, Gathered};
 ghost use Rattle.std.specs.VecDeque.{deque_capacity};
 ghost use Rattle.atomic_table.specs.Table.{rest};
@@ -19,7 +21,7 @@ ghost use Rattle.ifl_base.specs.Space.{space, advanced};
 
 use crate::answers::Checked;
 use crate::bare::{BareRing, BareSeat, read};
-use crate::counted::{drained, nothing};
+use crate::counted::count_drained;
 use crate::drainer::{Drainer, RingItem};
 use crate::place::Place;
 use crate::plays::TakeOver;
@@ -53,34 +55,36 @@ impl<D: Drainer> BareRing<D> {
         if found == old { Ok(()) } else { Err(found) }
     }
 
-    /// Consumes what was left, where items were left and no seat is about to publish: the answer, and what its
-    /// steps count.
-    pub fn check<R: Wait>(&self, rt: &R, seat: &mut BareSeat<D>, budget: u32) -> (Checked, Counters)
+    /// Consumes what was left, where items were left and no seat is about to publish. The tally counts this.
+    pub fn check<R: Wait>(
+        &self,
+        rt: &R,
+        seat: &mut BareSeat<D>,
+        budget: u32,
+        tally: &mut Counters,
+    ) -> Checked
         requires table { seat.old.table_id ≡ self.now.table.shared.table_id }
         requires rest { Rests seat.old.me }
         requires budget { budget ≤ 65535 }
         ensures same { (seat.new.table_id ≡ seat.old.table_id) × (seat.new.id ≡ seat.old.id) }
         ensures rest { Rests seat.new.me }
-        ensures trail { (es : _) × IsChecked budget result.0 es × Trails self.now.size seat.old.me.0.known es result.1 seat.new.me.0.known }
+        ensures trail { (es : _) × (x : Counters) × IsChecked budget result es × Trails self.now.size seat.old.me.0.known es x seat.new.me.0.known × TallyRises x tally.old tally.new }
     {
         let seen = self.look(seat);
         if is_left(&seen) {
             match self.take_over(seat, &seen, budget) {
-                Err(found) => {
-                    let seen = read(self.size, found);
-                    (Checked::Lost { seen }, nothing())
-                }
+                Err(found) => Checked::Lost {
+                    seen: read(self.size, found),
+                },
                 Ok(()) => {
                     let items = distance(self.size, seen.cidx, seen.tail);
                     let (left, total) = self.drain(rt, seat, seen.cidx, items, budget, seen.flag);
-                    (
-                        Checked::Drained { left, total },
-                        drained(seen.flag, left, total),
-                    )
+                    count_drained(tally, seen.flag, left, total);
+                    Checked::Drained { left, total }
                 }
             }
         } else {
-            (Checked::NotNeeded { seen }, nothing())
+            Checked::NotNeeded { seen }
         }
     }
 }

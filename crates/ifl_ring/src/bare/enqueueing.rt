@@ -3,18 +3,19 @@ ghost use Rattle.std.specs.Prelude.{true, false, ◌≡◌, ◌≢◌, ◌<◌, 
 ghost use Rattle.std.specs.VecDeque.{deque_capacity};
 ghost use Rattle.ifl_base.specs.declared.limits.TheConstants.{MAX_BATCH};
 ghost use Rattle.ifl_base.specs.Word.{IsWithin};
-ghost use Rattle.ifl_ringcore.specs.Counters.{capped, nothing_counted};
+ghost use Rattle.ifl_ringcore.specs.Counters.{nothing_counted};
 ghost use Rattle.ifl_ringcore.specs.declared.counters.Counters.{Counters};
 ghost use Rattle.ifl_ring.specs.Acts.{items_in};
 ghost use Rattle.ifl_ring.specs.Calls.{AreHandedOver, AreLooks, IsDelivered, IsEnqueued, IsRelieved, publishing};
 ghost use Rattle.ifl_ring.specs.Law.{Rests};
 ghost use Rattle.ifl_ring.specs.Publishing.{IsPublished, IsConsumer};
+ghost use Rattle.ifl_ring.specs.Tally.{TallyRises};
 ghost use Rattle.ifl_ring.specs.Tells.{HasTurn, HoldsAt, Looks, Same};
 ghost use Rattle.ifl_ring.specs.Trails.{IsLived, Trails};
 
 use crate::answers::Enqueued;
 use crate::bare::{BareRing, BareSeat, read};
-use crate::counted::{drained, elected, nothing, published, refused};
+use crate::counted::{count_drained, count_elected, count_published, count_refused};
 use crate::drainer::{Drainer, RingItem};
 use crate::published::Published;
 use crate::waiting::Waiting;
@@ -92,8 +93,7 @@ impl<D: Drainer> BareRing<D> {
         unreachable!()
     }
 
-    /// Publishes what lies in the seat's places, and drains where it became the consumer: the answer, and what
-    /// this counts.
+    /// Publishes what lies in the seat's places, and drains where it became the consumer. The tally counts this.
     pub fn deliver<G: Gate, R: Wait>(
         &self,
         rt: &R,
@@ -104,7 +104,8 @@ impl<D: Drainer> BareRing<D> {
         budget: u32,
         abdicate: bool,
         gate: &G,
-    ) -> (Enqueued, Counters)
+        tally: &mut Counters,
+    ) -> Enqueued
         requires table { seat.old.table_id ≡ self.now.table.shared.table_id }
         requires held { HoldsAt self.now.size n place seat.old.me }
         requires lived { IsLived self.now.size seat.old.me.0.known }
@@ -112,41 +113,50 @@ impl<D: Drainer> BareRing<D> {
         requires budget { budget ≤ 65535 }
         ensures same { (seat.new.table_id ≡ seat.old.table_id) × (seat.new.id ≡ seat.old.id) }
         ensures rest { Rests seat.new.me }
-        ensures went { (es : _) × (x : Counters) × IsEnqueued self.now.size budget abdicate n (map D.Item.meaning (items_in seat.old.me.1)) result.0 es × Trails self.now.size seat.old.me.0.known es x seat.new.me.0.known × (result.1 ≡ capped x) }
-        ensures handed { IsDelivered result.0 }
+        ensures went { (es : _) × (x : Counters) × IsEnqueued self.now.size budget abdicate n (map D.Item.meaning (items_in seat.old.me.1)) result es × Trails self.now.size seat.old.me.0.known es x seat.new.me.0.known × TallyRises x tally.old tally.new }
+        ensures handed { IsDelivered result }
     {
         let (how, found) = self.publish_at_turn(rt, seat, place, n, budget, abdicate);
         gate.at(who, Point::Published);
         match how {
-            Published::Behind => (Enqueued::Behind, published(n)),
-            Published::Abdicated => (Enqueued::Abdicated, published(n)),
+            Published::Behind => {
+                count_published(tally, n);
+                Enqueued::Behind
+            }
+            Published::Abdicated => {
+                count_published(tally, n);
+                Enqueued::Abdicated
+            }
             Published::Elected { items } => {
                 let (left, total) = self.drain(rt, seat, found.cidx, items, budget, found.flag);
-                (
-                    Enqueued::Drained { left, total },
-                    elected(n, found.flag).plus(&drained(found.flag, left, total)),
-                )
+                count_elected(tally, n, found.flag);
+                count_drained(tally, found.flag, left, total);
+                Enqueued::Drained { left, total }
             }
         }
     }
 
-    /// Consumes what was left in a word that said stalled, with a budget of nothing: what this counts.
-    pub fn relieve<R: Wait>(&self, rt: &R, seat: &mut BareSeat<D>, seen: &RingWord) -> Counters
+    /// Consumes what was left in a word that said stalled, with a budget of nothing. The tally counts this.
+    pub fn relieve<R: Wait>(
+        &self,
+        rt: &R,
+        seat: &mut BareSeat<D>,
+        seen: &RingWord,
+        tally: &mut Counters,
+    )
         requires table { seat.old.table_id ≡ self.now.table.shared.table_id }
         requires rest { Rests seat.old.me }
         requires lived { IsLived self.now.size seat.old.me.0.known }
         ensures same { (seat.new.table_id ≡ seat.old.table_id) × (seat.new.id ≡ seat.old.id) }
         ensures rest { Rests seat.new.me }
-        ensures trail { (es : _) × (publishing es ≡ []) × IsRelieved seen.now es × Trails self.now.size seat.old.me.0.known es result seat.new.me.0.known }
+        ensures trail { (es : _) × (x : Counters) × (publishing es ≡ []) × IsRelieved seen.now es × Trails self.now.size seat.old.me.0.known es x seat.new.me.0.known × TallyRises x tally.old tally.new }
     {
         if is_stalled(seen.flag) {
-            self.check(rt, seat, 0).1
-        } else {
-            nothing()
+            self.check(rt, seat, 0, tally);
         }
     }
 
-    /// Publishes the items, unless the ring has no room for them: the answer, and what this counts.
+    /// Publishes the items, unless the ring has no room for them. The tally counts this.
     pub fn enqueue<G: Gate, R: Wait>(
         &self,
         rt: &R,
@@ -156,15 +166,16 @@ impl<D: Drainer> BareRing<D> {
         budget: u32,
         abdicate: bool,
         gate: &G,
-    ) -> (Enqueued, Counters)
+        tally: &mut Counters,
+    ) -> Enqueued
         requires table { seat.old.table_id ≡ self.now.table.shared.table_id }
         requires rest { Rests seat.old.me }
         requires batch { (1 ≤ length items.old.items) × (length items.old.items ≤ MAX_BATCH) }
         requires budget { budget ≤ 65535 }
         ensures same { (seat.new.table_id ≡ seat.old.table_id) × (seat.new.id ≡ seat.old.id) }
         ensures rest { Rests seat.new.me }
-        ensures went { (es : _) × (x : Counters) × IsEnqueued self.now.size budget abdicate (length items.old.items) (map D.Item.meaning items.old.items) result.0 es × Trails self.now.size seat.old.me.0.known es x seat.new.me.0.known × (result.1 ≡ capped x) }
-        ensures items { AreHandedOver result.0 items.old.items items.new.items }
+        ensures went { (es : _) × (x : Counters) × IsEnqueued self.now.size budget abdicate (length items.old.items) (map D.Item.meaning items.old.items) result es × Trails self.now.size seat.old.me.0.known es x seat.new.me.0.known × TallyRises x tally.old tally.new }
+        ensures items { AreHandedOver result items.old.items items.new.items }
         ensures room { deque_capacity items.new ≡ deque_capacity items.old }
     {
         gate.at(who, Point::Begin);
@@ -173,12 +184,13 @@ impl<D: Drainer> BareRing<D> {
             Ok(place) => {
                 gate.at(who, Point::Reserved);
                 self.put_back(seat, items, place);
-                self.deliver(rt, seat, who, place, n, budget, abdicate, gate)
+                self.deliver(rt, seat, who, place, n, budget, abdicate, gate, tally)
             }
             Err(seen) => {
-                let relieved = self.relieve(rt, seat, &seen);
+                count_refused(tally, n);
+                self.relieve(rt, seat, &seen, tally);
                 gate.at(who, Point::Refused);
-                (Enqueued::NoBuffers { seen }, refused(n).plus(&relieved))
+                Enqueued::NoBuffers { seen }
             }
         }
     }

@@ -1,14 +1,14 @@
-use Rattle.std.proofs.Common.{rules, arith, sym, ap, ◌∙◌, refl, subst, [], ◌∷◌, ℕ}
+use Rattle.std.proofs.Common.{rules, arith, sym, ap, ◌∙◌, refl, [], ◌∷◌, ℕ}
 use Rattle.ifl_base.specs.Word.{pack}
 use Rattle.ifl_ringcore.specs.Counters.{nothing_counted}
-use Rattle.ifl_ringcore.specs.declared.counters.Counters.{Counters}
 use Rattle.ifl_ringcore.specs.declared.history.Entry.{Entry}
 use Rattle.ifl_ringcore.specs.declared.history.Step.TheVariants.{Look, TakeOver}
 use Rattle.ifl_ring.specs.declared.view.Known.{Known}
+use Rattle.ifl_ring.specs.Tally.{drain_rise}
 use Rattle.ifl_ring.specs.Tells.{entry}
-use Rattle.ifl_ring.specs.Trails.{Trails}
 use Rattle.ifl_ring.proofs.Rests.{rests_after_look}
 use Rattle.ifl_ring.proofs.Settling.{over_taken}
+use Rattle.ifl_ring.proofs.Rising.{rises-nothing}
 use Rattle.ifl_ring.proofs.Trails.{trail-after, trail-made}
 use Rattle.ifl_ring.proofs.bare.BareRing.check.Goals as goal
 
@@ -26,11 +26,12 @@ pub returns-in-Err-clause-trail : goal.returns-in-Err-clause-trail
 returns-in-Err-clause-trail g c = let size : ℕ = c.args.self.now.size in let v : Known = c.args.seat.now.me.0.known in let v1 : Known = c.look-seen.new.seat.me.0.known in let v2 : Known = c.take_over.new.seat.me.0.known in
     let look = c.look-seen.ensures.look in let e = c.in-Err.ensures.err in
     let one : Entry = entry v.number (pack c.look-seen.result) Look in let two : Entry = entry v1.number c.in-Err.found Look in
-    let packs = c.read-seen.ensures.packs in (
+    let packs = c.read.ensures.packs in (
       one ∷ two ∷ [],
+      nothing_counted,
       (c.look-seen.result, one, two, refl, (refl, refl), c.is_left.ensures.yes c.if-is_left.true, (refl, sym packs), λ same. e.3 (sym packs ∙ ap pack same)),
-      subst (λ (z : Counters). Trails size v (one ∷ two ∷ []) z v2) (sym c.nothing.ensures)
-          (trail-after size v v1 v2 (one ∷ []) (two ∷ []) nothing_counted (trail-made size v one v1 c.requires.rest.0.named look.0) (trail-made size v1 two v2 c.look-seen.ensures.rest.0.named e.0.0)),
+      trail-after size v v1 v2 (one ∷ []) (two ∷ []) nothing_counted (trail-made size v one v1 c.requires.rest.0.named look.0) (trail-made size v1 two v2 c.look-seen.ensures.rest.0.named e.0.0),
+      rises-nothing _,
     )
 
 pub returns-in-Ok-clause-trail : goal.returns-in-Ok-clause-trail
@@ -38,16 +39,19 @@ returns-in-Ok-clause-trail g c = let size : ℕ = c.args.self.now.size in let v 
     let look = c.look-seen.ensures.look in let o = c.in-Ok.ensures.ok in let d = c.drain-left.ensures.trail in
     let one : Entry = entry v.number (pack c.look-seen.result) Look in let two : Entry = entry v1.number (pack c.look-seen.result) (TakeOver c.args.budget) in (
       one ∷ two ∷ d.0,
+      drain_rise c.look-seen.result.flag c.drain-left.result.0 c.drain-left.result.1,
       (c.look-seen.result, one, two, d.0, refl, (refl, refl), c.is_left.ensures.yes c.if-is_left.true, (refl, refl), d.1),
-      subst (λ (z : Counters). Trails size v (one ∷ two ∷ d.0) z c.drain-left.new.seat.me.0.known) (sym c.drained.ensures)
-          (trail-after size v v1 _ (one ∷ []) (two ∷ d.0) _ (trail-made size v one v1 c.requires.rest.0.named look.0)
-          (trail-after size v1 v2 _ (two ∷ []) d.0 _ (trail-made size v1 two v2 c.look-seen.ensures.rest.0.named o.1.made) d.2)),
+      trail-after size v v1 _ (one ∷ []) (two ∷ d.0) _ (trail-made size v one v1 c.requires.rest.0.named look.0)
+          (trail-after size v1 v2 _ (two ∷ []) d.0 _ (trail-made size v1 two v2 c.look-seen.ensures.rest.0.named o.1.made) d.2),
+      c.count_drained.ensures,
     )
 
 pub returns-else-is_left-clause-trail : goal.returns-else-is_left-clause-trail
 returns-else-is_left-clause-trail g c = let size : ℕ = c.args.self.now.size in let v : Known = c.args.seat.now.me.0.known in let v1 : Known = c.look-seen.new.seat.me.0.known in let look = c.look-seen.ensures.look in
     let one : Entry = entry v.number (pack c.look-seen.result) Look in (
       one ∷ [],
+      nothing_counted,
       (one, refl, (refl, refl), c.is_left.ensures.no c.if-is_left.false),
-      subst (λ (z : Counters). Trails size v (one ∷ []) z v1) (sym c.nothing-else-is_left.ensures) (trail-made size v one v1 c.requires.rest.0.named look.0),
+      trail-made size v one v1 c.requires.rest.0.named look.0,
+      rises-nothing _,
     )

@@ -1,6 +1,6 @@
-use Rattle.std.proofs.Common.{sym, ◌∙◌, ◌∷◌, ◌++◌, [], map, refl, subst, List}
+use Rattle.std.proofs.Common.{◌∷◌, ◌++◌, [], map, refl, subst, List}
 use Rattle.ifl_base.specs.declared.word.RingWord.{RingWord}
-use Rattle.ifl_ringcore.specs.Counters.{capped, nothing_counted, plus}
+use Rattle.ifl_ringcore.specs.Counters.{nothing_counted, plus}
 use Rattle.ifl_ringcore.specs.declared.counters.Counters.{Counters}
 use Rattle.ifl_ringcore.specs.declared.history.Meaning.{Meaning}
 use Rattle.ifl_ringcore.specs.declared.history.Step.TheVariants as step
@@ -10,7 +10,8 @@ use Rattle.ifl_ring.specs.Tally.{drain_rise}
 use Rattle.ifl_ring.specs.declared.published.Published.{Published}
 use Rattle.ifl_ring.specs.declared.published.Published.TheVariants.{Elected}
 use Rattle.ifl_ring.proofs.Claiming.{publishing-drain}
-use Rattle.ifl_ring.proofs.Enqueueing.{capped-published, publishing-one}
+use Rattle.ifl_ring.proofs.Enqueueing.{publishing-one}
+use Rattle.ifl_ring.proofs.Rising.{rises-plus}
 use Rattle.ifl_ring.proofs.Trails.{trail-after, trail-more}
 use Rattle.ifl_ring.proofs.bare.BareRing.deliver.Goals as goal
 
@@ -21,7 +22,7 @@ returns-in-Behind-clause-went g c = let P = c.publish_at_turn-how.ensures.publis
       record nothing_counted { enqueues = c.args.n },
       (q.asked, publishing-one (step.Behind xs) P.0 [] q.entry P.2 q.finds.0 refl refl),
       trail-after _ _ _ _ P.0 (q.entry ∷ []) _ P.3 q.trail,
-      c.published.ensures ∙ sym (capped-published c.args.n c.ranges.n.fits),
+      c.count_published.ensures,
     )
 
 pub returns-in-Abdicated-clause-went : goal.returns-in-Abdicated-clause-went
@@ -31,7 +32,7 @@ returns-in-Abdicated-clause-went g c = let P = c.publish_at_turn-how.ensures.pub
       record nothing_counted { enqueues = c.args.n },
       (q.asked, publishing-one (step.Abdicating xs) P.0 [] q.entry P.2 q.finds.0 refl refl),
       trail-after _ _ _ _ P.0 (q.entry ∷ []) _ P.3 q.trail,
-      c.published-in-Abdicated.ensures ∙ sym (capped-published c.args.n c.ranges.n.fits),
+      c.count_published-in-Abdicated.ensures,
     )
 
 pub returns-in-Elected-clause-went : goal.returns-in-Elected-clause-went
@@ -42,5 +43,5 @@ returns-in-Elected-clause-went g c = let P = c.publish_at_turn-how.ensures.publi
       plus up down,
       (q.asked, publishing-one (step.Elected c.args.budget xs) P.0 d.0 q.entry P.2 q.finds.0 refl (publishing-drain _ _ d.0 d.1), (P.0, q.entry, d.0, refl, q.finds.0, d.1)),
       trail-after _ _ _ _ P.0 (q.entry ∷ d.0) _ P.3 (trail-more _ _ _ _ (q.entry ∷ []) d.0 up down q.trail d.2),
-      c.plus.ensures ∙ (λ i. capped (plus (c.elected.ensures i) (c.drained.ensures i))),
+      rises-plus up down _ _ _ c.count_elected.ensures c.count_drained.ensures,
     )

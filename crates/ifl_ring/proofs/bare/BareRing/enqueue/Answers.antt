@@ -4,7 +4,7 @@ use Rattle.ifl_ringcore.specs.declared.history.Step.TheVariants.{Refuse}
 use Rattle.ifl_ring.specs.declared.view.Known.{Known}
 use Rattle.ifl_ring.specs.Acts.{out_all}
 use Rattle.ifl_ring.specs.Tells.{nothing}
-use Rattle.ifl_ringcore.specs.Counters.{capped, nothing_counted, plus}
+use Rattle.ifl_ringcore.specs.Counters.{nothing_counted, plus}
 use Rattle.ifl_ringcore.specs.declared.counters.Counters.{Counters}
 use Rattle.ifl_ringcore.specs.declared.history.Entry.{Entry}
 use Rattle.ifl_ringcore.specs.declared.history.Meaning.{Meaning}
@@ -12,6 +12,7 @@ use Rattle.ifl_ring.specs.Calls.{IsEnqueued}
 use Rattle.ifl_ring.specs.Trails.{Trails}
 use Rattle.ifl_ring.proofs.Claiming.{publishing-append}
 use Rattle.ifl_ring.proofs.Enqueueing.{enqueued-after, holds-laid, items-laid}
+use Rattle.ifl_ring.proofs.Rising.{rises-plus}
 use Rattle.ifl_ring.proofs.Trails.{trail-after, trail-more}
 use Rattle.ifl_ring.proofs.bare.BareRing.enqueue.Goals as goal
 
@@ -27,22 +28,22 @@ returns-in-Ok-clause-went g c = let o = c.in-Ok.ensures.ok in let p = o.2 in let
     let kept = ap (λ z. z.known) c.put_back.ensures.same.2 in (
       q.0 ++ d.0,
       d.1,
-      enqueued-after _ _ _ _ _ c.deliver.result.0 q.0 d.0 q.1 c.deliver.ensures.handed
-          (subst (λ (z : ℕ × List Meaning). IsEnqueued c.args.self.now.size c.args.budget c.args.abdicate z.0 z.1 c.deliver.result.0 d.0) (λ i. (n i, map g.D.Item.RingItem.meaning (laid_is i))) d.2),
+      enqueued-after _ _ _ _ _ c.deliver.result q.0 d.0 q.1 c.deliver.ensures.handed
+          (subst (λ (z : ℕ × List Meaning). IsEnqueued c.args.self.now.size c.args.budget c.args.abdicate z.0 z.1 c.deliver.result d.0) (λ i. (n i, map g.D.Item.RingItem.meaning (laid_is i))) d.2),
       trail-after _ c.args.seat.now.me.0.known _ _ q.0 d.0 d.1 q.2 (subst (λ (z : Known). Trails c.args.self.now.size z d.0 d.1 c.deliver.new.seat.me.0.known) kept d.3),
       d.4,
     )
 
 pub returns-in-Err-clause-went : goal.returns-in-Err-clause-went
-returns-in-Err-clause-went g c = let r = c.in-Err.ensures.err in let q = r.2 in let f = c.relieve-relieved.ensures.trail in let n : c.len-n.result ≡ length c.args.items.now.items = search rules in
+returns-in-Err-clause-went g c = let r = c.in-Err.ensures.err in let q = r.2 in let f = c.relieve.ensures.trail in let n : c.len-n.result ≡ length c.args.items.now.items = search rules in
     let up : Counters = record nothing_counted { drops = c.len-n.result } in (
       q.0 ++ f.0,
-      plus up c.relieve-relieved.result,
+      plus up f.1,
       (
-        publishing-append q.0 f.0 ∙ (λ i. q.1 i ++ f.1 i),
-        (q.2.0, q.2.1, f.0, ap (λ (z : List Entry). z ++ f.0) q.2.2 ∙ append_assoc q.2.0 (q.2.1 ∷ []) f.0, q.2.3, (q.2.4.0 ∙ ap Refuse n, q.2.4.1), f.2),
+        publishing-append q.0 f.0 ∙ (λ i. q.1 i ++ f.2 i),
+        (q.2.0, q.2.1, f.0, ap (λ (z : List Entry). z ++ f.0) q.2.2 ∙ append_assoc q.2.0 (q.2.1 ∷ []) f.0, q.2.3, (q.2.4.0 ∙ ap Refuse n, q.2.4.1), f.3),
         subst (λ (z : ℕ). space c.args.self.now.size c.in-Err.seen ≤ z) n r.1,
       ),
-      trail-more _ c.args.seat.now.me.0.known _ _ q.0 f.0 up c.relieve-relieved.result q.3 f.3,
-      c.plus.ensures ∙ ap (λ (z : Counters). capped (plus z c.relieve-relieved.result)) c.refused.ensures,
+      trail-more _ c.args.seat.now.me.0.known _ _ q.0 f.0 up f.1 q.3 f.4,
+      rises-plus up f.1 _ _ _ c.count_refused.ensures f.5,
     )

@@ -15,4 +15,4 @@ invariant_of-seat g c = let i = c.seat.invariant in let s = c.split-new.ensures.
 
 pub invariant_of-result : goal.invariant_of-result
 invariant_of-result g c = let i = c.seat.invariant in let n = c.split-new.ensures.new in let part = n.part in let most = i.2 in let same = i.1 in
-    (c.split-new.ensures.rest.1, omega arith, omega arith, c.nothing.ensures ∙ sym capped-nothing ∙ ap capped (sym (tally-named _ _ _ n)))
+    (c.split-new.ensures.rest.1, omega arith, omega arith, sym capped-nothing ∙ ap capped (sym (tally-named _ _ _ n)))
