@@ -37,7 +37,8 @@ def build(crate, words):
     return os.path.join(crate, "out", os.path.basename(crate))
 
 
-def build_plain(source, target):
+def build_plain(source, target, *flags):
     """Builds a program in plain Rust for the same processor."""
-    subprocess.run(["rustc", "-A", "dead_code", "-O", "-C", "target-cpu=x86-64-v2", "-o", target, source], check=True)
+    command = ["rustc", "-A", "dead_code", "-A", "unexpected_cfgs", "-O", "-C", "target-cpu=x86-64-v2", *flags]
+    subprocess.run([*command, "-o", target, source], check=True)
     return target

@@ -1,5 +1,8 @@
 //! The ring with the same calls over plain atomics: the same word, steps, waiting, hand-over of items, answers and
 //! counters, with nothing proved.
+//!
+//! With `--cfg reserves_at_once` it waits as FreeBSD's ring does in the kernel, where nothing can put a thread aside that
+//! has reserved: it doesn't look first, and only pauses until its turn.
 use std::cell::UnsafeCell;
 use std::collections::VecDeque;
 use std::sync::atomic::{AtomicU64, Ordering::SeqCst};
@@ -7,8 +10,8 @@ use std::thread;
 
 const SIZE: u32 = 2048;
 const BUDGET: u32 = 2048;
-const LOOKS: u32 = 64;
-const PAUSES: u32 = 16;
+const LOOKS: u32 = if cfg!(reserves_at_once) { 0 } else { 64 };
+const PAUSES: u32 = if cfg!(reserves_at_once) { u32::MAX } else { 16 };
 const DRAIN_BATCH: usize = 32;
 const UPDATE: u32 = 64;
 
