@@ -21,7 +21,7 @@ use Rattle.ifl_ring.specs.declared.place.Place.{Place}
 use Rattle.ifl_ring.specs.declared.place.Place.TheVariants.{Told}
 use Rattle.ifl_ring.specs.declared.view.Known.{Known}
 use Rattle.ifl_ring.specs.declared.view.View.{View}
-use Rattle.ifl_ring.specs.Calls.{AreLooks, AreOfDrain, IsChecked, IsDrain, parting, publishes, publishing}
+use Rattle.ifl_ring.specs.Calls.{AreLooks, AreOfDrain, EndsReserved, IsChecked, IsDrain, parting, publishes, publishing}
 use Rattle.ifl_ring.specs.Law.{Has, IsAtRest}
 use Rattle.ifl_ring.specs.Tells.{entry, Made, nothing, place_of, refused, Reserves, Same}
 use Rattle.ifl_ring.proofs.Bridge.{place_head, sized}
@@ -102,6 +102,9 @@ module _ {I D O : Type 0} where
       here = place_head size n m.0.known m'.0.known word pos small within t;
     },
   )
+
+pub publishing-reserved : (n : ℕ) (es : List Entry) → EndsReserved n es → publishing es ≡ []
+publishing-reserved n es t = ap publishing t.2 ∙ publishing-append t.0 (t.1 ∷ []) ∙ ap (λ (z : List Step). z ++ publishing (t.1 ∷ [])) (publishing-looks t.0 t.3) ∙ publishing-quiet t.1 [] (ap publishes t.4) refl
 
 -- looks, looks again, and a step that does not publish
 pub publishing-last : (es fs : List Entry) (e : Entry) → AreLooks es → AreLooks fs → publishes e.event ≡ false → publishing (es ++ (fs ++ e ∷ [])) ≡ []

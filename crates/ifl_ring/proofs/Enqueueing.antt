@@ -4,13 +4,13 @@ use Rattle.atomic_table.specs.Table.{Me}
 use Rattle.ifl_base.specs.declared.word.Flag.{Flag}
 use Rattle.ifl_base.specs.declared.word.RingWord.{RingWord}
 use Rattle.ifl_base.specs.Word.{IsWithin, pack}
-use Rattle.std.proofs.Common.{Bool, append_assoc}
+use Rattle.std.proofs.Common.{Bool}
 use Rattle.std.specs.Prelude.{Some, None}
 use Rattle.ifl_ring.specs.declared.answers.Enqueued.{Enqueued}
 use Rattle.ifl_ring.specs.declared.answers.Enqueued.TheVariants as answer
 use Rattle.ifl_ringcore.specs.declared.history.Step.{Step}
-use Rattle.ifl_ring.specs.Calls.{AreHandedOver, AreLooks, IsDelivered, IsEnqueued, publishes, publishing}
-use Rattle.ifl_ring.proofs.Claiming.{publishing-append, publishing-looks}
+use Rattle.ifl_ring.specs.Calls.{AreHandedOver, AreLooks, IsPublication, EndsReserved, IsDelivered, IsDelivery, IsEnqueued, publishes, publishing}
+use Rattle.ifl_ring.proofs.Claiming.{publishing-append, publishing-drain, publishing-looks, publishing-reserved}
 use Rattle.ifl_ringcore.specs.Counters.{nothing_counted, one_if, is_idle}
 use Rattle.ifl_ringcore.specs.declared.history.Entry.{Entry}
 use Rattle.ifl_ringcore.specs.declared.history.Meaning.{Meaning}
@@ -84,16 +84,19 @@ holds-laid {I = I} {D = D} {O = O} size n at items m m' p count view out = (
 pub items-laid : {I D : Type 0} (size a : ℕ) (items : List I) (c : List (ℕ × Place I D)) → c ≡ [] ++ laid size a items [] → items_in c ≡ items
 items-laid {I = I} {D = D} size a items c is = ap items_in is ∙ laid_items I D size a items
 
--- steps that publish nothing before those of an answer
-pub enqueued-after : (size budget n : ℕ) (abdicate : Bool) (xs : List Meaning) (got : Enqueued) (es fs : List Entry) → publishing es ≡ [] → IsDelivered got → IsEnqueued size budget abdicate n xs got fs → IsEnqueued size budget abdicate n xs got (es ++ fs)
-enqueued-after size budget n abdicate xs answer.Behind es fs none d t = (t.0, publishing-append es fs ∙ ap (λ (z : List Step). z ++ publishing fs) none ∙ t.1)
-enqueued-after size budget n abdicate xs answer.Abdicated es fs none d t = (t.0, publishing-append es fs ∙ ap (λ (z : List Step). z ++ publishing fs) none ∙ t.1)
-enqueued-after size budget n abdicate xs (answer.Drained left total) es fs none d t = (
-  t.0,
-  publishing-append es fs ∙ ap (λ (z : List Step). z ++ publishing fs) none ∙ t.1,
-  (es ++ t.2.0, t.2.1, t.2.2, ap (λ (z : List Entry). es ++ z) t.2.3 ∙ sym (append_assoc es t.2.0 (t.2.1 ∷ t.2.2)), t.2.4, t.2.5),
-)
-enqueued-after size budget n abdicate xs (answer.NoBuffers seen) es fs none d t = absurd d
+publishing-published : (s : Step) (behind_it es : List Entry) → publishes s ≡ true → publishing behind_it ≡ [] → IsPublication s behind_it es → publishing es ≡ s ∷ []
+publishing-published s behind_it es aye none p = ap publishing p.2 ∙ publishing-one s p.0 behind_it p.1 p.3 p.4 aye none
+
+publishing-sent : (s : Step) (n : ℕ) (es fs : List Entry) → EndsReserved n es → publishing fs ≡ s ∷ [] → publishing (es ++ fs) ≡ s ∷ []
+publishing-sent s n es fs r one = publishing-append es fs ∙ (λ i. publishing-reserved n es r i ++ one i)
+
+-- a reservation before a delivery
+pub enqueued-sent : (size budget n : ℕ) (abdicate : Bool) (xs : List Meaning) (got : Enqueued) (es fs : List Entry) → EndsReserved n es → IsDelivery budget abdicate xs got fs → IsEnqueued size budget abdicate n xs got (es ++ fs)
+enqueued-sent size budget n abdicate xs answer.Behind es fs r d = (publishing-sent (step.Behind xs) n es fs r (publishing-published (step.Behind xs) [] fs refl refl d.1), (es, fs, refl, r, d))
+enqueued-sent size budget n abdicate xs answer.Abdicated es fs r d = (publishing-sent (step.Abdicating xs) n es fs r (publishing-published (step.Abdicating xs) [] fs refl refl d.1), (es, fs, refl, r, d))
+enqueued-sent size budget n abdicate xs (answer.Drained left total) es fs r d =
+    (publishing-sent (step.Elected budget xs) n es fs r (publishing-published (step.Elected budget xs) d.1 fs refl (publishing-drain left total d.1 d.3) d.2), (es, fs, refl, r, d))
+enqueued-sent size budget n abdicate xs (answer.NoBuffers seen) es fs r d = absurd d
 
 pub handed-over : {I : Type 0} (got : Enqueued) (before after_it : List I) → IsDelivered got → after_it ≡ [] → AreHandedOver got before after_it
 handed-over answer.Behind before after_it d e = e

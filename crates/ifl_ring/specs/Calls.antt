@@ -112,15 +112,30 @@ IsRelieved seen es = (seen.flag ≡ Stalled → (got : Checked) × IsChecked 0 g
 abbrev pub IsRefused : ℕ → RingWord → List Entry → Type 0
 IsRefused n seen es = (before : List Entry) × (e : Entry) × (behind_it : List Entry) × (es ≡ before ++ e ∷ behind_it) × AreLooks before × Finds (Refuse n) seen e × IsRelieved seen behind_it
 
--- the seat published these items as a consumer, and drained
-abbrev pub IsElected : ℕ → List Meaning → Flag → ℕ → List Entry → Type 0
-IsElected budget xs left total es = (before : List Entry) × (e : Entry) × (drained : List Entry) × (es ≡ before ++ e ∷ drained) × (e.event ≡ Elected budget xs) × IsDrain left total drained
+-- looks, and then n places were reserved
+abbrev pub EndsReserved : ℕ → List Entry → Type 0
+EndsReserved n es = (before : List Entry) × (e : Entry) × (es ≡ before ++ e ∷ []) × AreLooks before × (e.event ≡ Reserve n)
+
+-- looks, the step that publishes, and what comes behind it
+abbrev pub IsPublication : Step → List Entry → List Entry → Type 0
+IsPublication step behind_it es = (before : List Entry) × (e : Entry) × (es ≡ before ++ e ∷ behind_it) × AreLooks before × (e.event ≡ step)
+
+-- behind a reservation: items with these meanings were published, and where no consumer was there the seat drained
+abbrev pub IsDelivery : ℕ → Bool → List Meaning → Enqueued → List Entry → Type 0
+IsDelivery budget abdicate xs enqueued.Behind es = (abdicate ≡ false) × IsPublication (Behind xs) [] es
+IsDelivery budget abdicate xs enqueued.Abdicated es = (abdicate ≡ true) × IsPublication (Abdicating xs) [] es
+IsDelivery budget abdicate xs (enqueued.Drained left total) es = (abdicate ≡ false) × (drained : List Entry) × IsPublication (Elected budget xs) drained es × IsDrain left total drained
+IsDelivery budget abdicate xs (enqueued.NoBuffers seen) es = ⊥
+
+-- a reservation of n places, and the delivery behind it
+abbrev pub IsSent : ℕ → ℕ → Bool → List Meaning → Enqueued → List Entry → Type 0
+IsSent n budget abdicate xs got es = (first : List Entry) × (others : List Entry) × (es ≡ first ++ others) × EndsReserved n first × IsDelivery budget abdicate xs got others
 
 -- the entries of the enqueueing of n items with these meanings, with this budget, in a ring of this size
 abbrev pub IsEnqueued : ℕ → ℕ → Bool → ℕ → List Meaning → Enqueued → List Entry → Type 0
-IsEnqueued size budget abdicate n xs enqueued.Behind es = (abdicate ≡ false) × (publishing es ≡ Behind xs ∷ [])
-IsEnqueued size budget abdicate n xs enqueued.Abdicated es = (abdicate ≡ true) × (publishing es ≡ Abdicating xs ∷ [])
-IsEnqueued size budget abdicate n xs (enqueued.Drained left total) es = (abdicate ≡ false) × (publishing es ≡ Elected budget xs ∷ []) × IsElected budget xs left total es
+IsEnqueued size budget abdicate n xs enqueued.Behind es = (publishing es ≡ Behind xs ∷ []) × IsSent n budget abdicate xs enqueued.Behind es
+IsEnqueued size budget abdicate n xs enqueued.Abdicated es = (publishing es ≡ Abdicating xs ∷ []) × IsSent n budget abdicate xs enqueued.Abdicated es
+IsEnqueued size budget abdicate n xs (enqueued.Drained left total) es = (publishing es ≡ Elected budget xs ∷ []) × IsSent n budget abdicate xs (enqueued.Drained left total) es
 IsEnqueued size budget abdicate n xs (enqueued.NoBuffers seen) es = (publishing es ≡ []) × IsRefused n seen es × (space size seen ≤ n)
 
 -- where the items are afterwards

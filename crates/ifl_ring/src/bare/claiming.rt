@@ -7,7 +7,7 @@ ghost use Rattle.ifl_ringcore.specs.declared.history.Entry.{Entry};
 ghost use Rattle.ifl_ringcore.specs.declared.history.Step.TheVariants as step;
 ghost use Rattle.ifl_ringcore.specs.Conditions.{IsBatch};
 ghost use Rattle.ifl_ringcore.specs.Counters.{nothing_counted};
-ghost use Rattle.ifl_ring.specs.Calls.{AreLooks, EndsRefused, Finds, publishing};
+ghost use Rattle.ifl_ring.specs.Calls.{AreLooks, EndsRefused, EndsReserved, Finds, publishing};
 ghost use Rattle.ifl_ring.specs.Law.{Rests};
 ghost use Rattle.ifl_ring.specs.Publishing.{HasPlaces};
 ghost use Rattle.ifl_ring.specs.Tells.{entry, Made};
@@ -99,7 +99,7 @@ impl<D: Drainer> BareRing<D> {
         requires rest { Rests seat.old.me }
         requires batch { IsBatch n }
         ensures same { (seat.new.table_id ≡ seat.old.table_id) × (seat.new.id ≡ seat.old.id) }
-        ensures ok { IfOk result (λ place. (place < self.now.size) × (n < self.now.size) × HasPlaces self.now.size n place seat.new.me × ((es : _) × (publishing es ≡ []) × Trails self.now.size seat.old.me.0.known es nothing_counted seat.new.me.0.known)) }
+        ensures ok { IfOk result (λ place. (place < self.now.size) × (n < self.now.size) × HasPlaces self.now.size n place seat.new.me × ((es : _) × EndsReserved n es × Trails self.now.size seat.old.me.0.known es nothing_counted seat.new.me.0.known)) }
         ensures err { IfErr result (λ seen. Rests seat.new.me × (space self.now.size seen ≤ n) × ((es : _) × (publishing es ≡ []) × EndsRefused n seen es × Trails self.now.size seat.old.me.0.known es (record nothing_counted { drops = n }) seat.new.me.0.known)) }
     {
         let mut seen = self.look_for_quiet(seat);

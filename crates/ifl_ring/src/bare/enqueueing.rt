@@ -6,7 +6,7 @@ ghost use Rattle.ifl_base.specs.Word.{IsWithin};
 ghost use Rattle.ifl_ringcore.specs.Counters.{nothing_counted};
 ghost use Rattle.ifl_ringcore.specs.declared.counters.Counters.{Counters};
 ghost use Rattle.ifl_ring.specs.Acts.{items_in};
-ghost use Rattle.ifl_ring.specs.Calls.{AreHandedOver, AreLooks, IsDelivered, IsEnqueued, IsRelieved, publishing};
+ghost use Rattle.ifl_ring.specs.Calls.{AreHandedOver, AreLooks, IsDelivered, IsDelivery, IsEnqueued, IsRelieved, publishing};
 ghost use Rattle.ifl_ring.specs.Law.{Rests};
 ghost use Rattle.ifl_ring.specs.Publishing.{IsPublished, IsConsumer};
 ghost use Rattle.ifl_ring.specs.Tally.{TallyRises};
@@ -113,7 +113,7 @@ impl<D: Drainer> BareRing<D> {
         requires budget { budget ≤ 65535 }
         ensures same { (seat.new.table_id ≡ seat.old.table_id) × (seat.new.id ≡ seat.old.id) }
         ensures rest { Rests seat.new.me }
-        ensures went { (es : _) × (x : Counters) × IsEnqueued self.now.size budget abdicate n (map D.Item.meaning (items_in seat.old.me.1)) result es × Trails self.now.size seat.old.me.0.known es x seat.new.me.0.known × TallyRises x tally.old tally.new }
+        ensures went { (es : _) × (x : Counters) × IsDelivery budget abdicate (map D.Item.meaning (items_in seat.old.me.1)) result es × Trails self.now.size seat.old.me.0.known es x seat.new.me.0.known × TallyRises x tally.old tally.new }
         ensures handed { IsDelivered result }
     {
         let (how, found) = self.publish_at_turn(rt, seat, place, n, budget, abdicate);

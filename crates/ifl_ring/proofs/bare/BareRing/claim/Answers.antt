@@ -38,7 +38,7 @@ returns-in-Ok-reserve-clause-ok g c = let q = c.look_for_quiet-seen.ensures.trai
       p.1,
       (
         q.0 ++ (fs ++ e ∷ []),
-        publishing-last q.0 fs e q.1 (looks-append i.0 o.2.0 i.1 o.2.1) refl,
+        (q.0 ++ fs, e, sym (append_assoc q.0 fs (e ∷ [])), looks-append q.0 fs q.1 (looks-append i.0 o.2.0 i.1 o.2.1), refl),
         trail-after _ c.args.seat.now.me.0.known _ _ q.0 (fs ++ e ∷ []) _ q.2
             (trail-after _ _ _ _ fs (e ∷ []) nothing_counted (trail-after _ _ _ _ i.0 o.2.0 nothing_counted i.2 o.2.2) (trail-made _ v e _ c.find_room.ensures.rest.0.named r.0.made)),
       ),

@@ -3,14 +3,11 @@ use Rattle.ifl_base.specs.declared.word.RingWord.{RingWord}
 use Rattle.ifl_ringcore.specs.Counters.{nothing_counted, plus}
 use Rattle.ifl_ringcore.specs.declared.counters.Counters.{Counters}
 use Rattle.ifl_ringcore.specs.declared.history.Meaning.{Meaning}
-use Rattle.ifl_ringcore.specs.declared.history.Step.TheVariants as step
 use Rattle.ifl_ring.specs.Acts.{items_in}
 use Rattle.ifl_ring.specs.Publishing.{IsPublished, published_rise}
 use Rattle.ifl_ring.specs.Tally.{drain_rise}
 use Rattle.ifl_ring.specs.declared.published.Published.{Published}
 use Rattle.ifl_ring.specs.declared.published.Published.TheVariants.{Elected}
-use Rattle.ifl_ring.proofs.Claiming.{publishing-drain}
-use Rattle.ifl_ring.proofs.Enqueueing.{publishing-one}
 use Rattle.ifl_ring.proofs.Rising.{rises-plus}
 use Rattle.ifl_ring.proofs.Trails.{trail-after, trail-more}
 use Rattle.ifl_ring.proofs.bare.BareRing.deliver.Goals as goal
@@ -20,7 +17,7 @@ returns-in-Behind-clause-went g c = let P = c.publish_at_turn-how.ensures.publis
     let q = subst (λ (z : Published). IsPublished c.args.self.now.size c.args.budget c.args.n c.args.abdicate xs c.publish_at_turn-how.result.1 P.1 z c.publish_at_turn-how.new.seat.me.0.known) c.in-Behind.is P.4 in (
       P.0 ++ q.entry ∷ [],
       record nothing_counted { enqueues = c.args.n },
-      (q.asked, publishing-one (step.Behind xs) P.0 [] q.entry P.2 q.finds.0 refl refl),
+      (q.asked, (P.0, q.entry, refl, P.2, q.finds.0)),
       trail-after _ _ _ _ P.0 (q.entry ∷ []) _ P.3 q.trail,
       c.count_published.ensures,
     )
@@ -30,7 +27,7 @@ returns-in-Abdicated-clause-went g c = let P = c.publish_at_turn-how.ensures.pub
     let q = subst (λ (z : Published). IsPublished c.args.self.now.size c.args.budget c.args.n c.args.abdicate xs c.publish_at_turn-how.result.1 P.1 z c.publish_at_turn-how.new.seat.me.0.known) c.in-Abdicated.is P.4 in (
       P.0 ++ q.entry ∷ [],
       record nothing_counted { enqueues = c.args.n },
-      (q.asked, publishing-one (step.Abdicating xs) P.0 [] q.entry P.2 q.finds.0 refl refl),
+      (q.asked, (P.0, q.entry, refl, P.2, q.finds.0)),
       trail-after _ _ _ _ P.0 (q.entry ∷ []) _ P.3 q.trail,
       c.count_published-in-Abdicated.ensures,
     )
@@ -41,7 +38,7 @@ returns-in-Elected-clause-went g c = let P = c.publish_at_turn-how.ensures.publi
     let d = c.drain-left.ensures.trail in let up : Counters = published_rise c.args.n w.flag (Elected c.in-Elected.items) in let down : Counters = drain_rise w.flag c.drain-left.result.0 c.drain-left.result.1 in (
       P.0 ++ q.entry ∷ d.0,
       plus up down,
-      (q.asked, publishing-one (step.Elected c.args.budget xs) P.0 d.0 q.entry P.2 q.finds.0 refl (publishing-drain _ _ d.0 d.1), (P.0, q.entry, d.0, refl, q.finds.0, d.1)),
+      (q.asked, d.0, (P.0, q.entry, refl, P.2, q.finds.0), d.1),
       trail-after _ _ _ _ P.0 (q.entry ∷ d.0) _ P.3 (trail-more _ _ _ _ (q.entry ∷ []) d.0 up down q.trail d.2),
       rises-plus up down _ _ _ c.count_elected.ensures c.count_drained.ensures,
     )

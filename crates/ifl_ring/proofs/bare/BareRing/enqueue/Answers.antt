@@ -8,10 +8,10 @@ use Rattle.ifl_ringcore.specs.Counters.{nothing_counted, plus}
 use Rattle.ifl_ringcore.specs.declared.counters.Counters.{Counters}
 use Rattle.ifl_ringcore.specs.declared.history.Entry.{Entry}
 use Rattle.ifl_ringcore.specs.declared.history.Meaning.{Meaning}
-use Rattle.ifl_ring.specs.Calls.{IsEnqueued}
+use Rattle.ifl_ring.specs.Calls.{EndsReserved, IsDelivery}
 use Rattle.ifl_ring.specs.Trails.{Trails}
 use Rattle.ifl_ring.proofs.Claiming.{publishing-append}
-use Rattle.ifl_ring.proofs.Enqueueing.{enqueued-after, holds-laid, items-laid}
+use Rattle.ifl_ring.proofs.Enqueueing.{enqueued-sent, holds-laid, items-laid}
 use Rattle.ifl_ring.proofs.Rising.{rises-plus}
 use Rattle.ifl_ring.proofs.Trails.{trail-after, trail-more}
 use Rattle.ifl_ring.proofs.bare.BareRing.enqueue.Goals as goal
@@ -28,8 +28,8 @@ returns-in-Ok-clause-went g c = let o = c.in-Ok.ensures.ok in let p = o.2 in let
     let kept = ap (λ z. z.known) c.put_back.ensures.same.2 in (
       q.0 ++ d.0,
       d.1,
-      enqueued-after _ _ _ _ _ c.deliver.result q.0 d.0 q.1 c.deliver.ensures.handed
-          (subst (λ (z : ℕ × List Meaning). IsEnqueued c.args.self.now.size c.args.budget c.args.abdicate z.0 z.1 c.deliver.result d.0) (λ i. (n i, map g.D.Item.RingItem.meaning (laid_is i))) d.2),
+      enqueued-sent _ _ _ _ _ c.deliver.result q.0 d.0 (subst (λ (z : ℕ). EndsReserved z q.0) n q.1)
+          (subst (λ (z : List Meaning). IsDelivery c.args.budget c.args.abdicate z c.deliver.result d.0) (λ i. map g.D.Item.RingItem.meaning (laid_is i)) d.2),
       trail-after _ c.args.seat.now.me.0.known _ _ q.0 d.0 d.1 q.2 (subst (λ (z : Known). Trails c.args.self.now.size z d.0 d.1 c.deliver.new.seat.me.0.known) kept d.3),
       d.4,
     )
