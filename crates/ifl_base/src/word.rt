@@ -1,6 +1,6 @@
 #![tactic(auto, unfolding(crate::specs::Word::pack))]
 
-ghost use Rattle.std.specs.Prelude.{◌≡◌, ◌+◌, ◌*◌, ◌^◌, ◌<◌, ◌≤◌, ◌↔◌, IfSome, IfNone, IsNone};
+ghost use Rattle.std.specs.Prelude.{◌≡◌, ◌*◌, ◌^◌, ◌<◌, ◌≤◌, ◌↔◌, IfSome, IfNone, IsNone};
 ghost use Rattle.ifl_base.specs.Word.{pack, number_of, name_of};
 
 /// Who takes care of the ring's published items.

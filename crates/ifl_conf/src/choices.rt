@@ -1,4 +1,4 @@
-ghost use Rattle.std.specs.Prelude.{◌≡◌, option_map, Option};
+ghost use Rattle.std.specs.Prelude.{◌≡◌, option_map};
 ghost use Rattle.toml.specs.Data.{string};
 ghost use Rattle.ifl_conf.specs.Keys.{row, word};
 ghost use Rattle.ifl_conf.specs.Documents.{as_setting};

@@ -1,4 +1,4 @@
-ghost use Rattle.std.specs.Prelude.{◌≡◌, Some, Option, map, string_bytes, IfOk};
+ghost use Rattle.std.specs.Prelude.{Some, map, string_bytes, IfOk};
 ghost use Rattle.ifl_conf.specs.Reading.{reading, command_reading};
 ghost use Rattle.ifl_conf.specs.Commands.{Answers, IsServed};
 

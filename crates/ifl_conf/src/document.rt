@@ -1,6 +1,6 @@
-ghost use Rattle.std.specs.Prelude.{◌≡◌, option_map, MatchResult, Some, Option};
+ghost use Rattle.std.specs.Prelude.{◌≡◌, option_map, MatchResult, Some};
 ghost use Rattle.toml.specs.View.{view, table_view};
-ghost use Rattle.ifl_conf.specs.Keys.{row, is_key};
+ghost use Rattle.ifl_conf.specs.Keys.{row};
 ghost use Rattle.ifl_conf.specs.Documents.{names_known, names_known_in, is_known_table, written_at, document_of, IsNoDocument};
 
 use crate::keys::{self, KeyName};

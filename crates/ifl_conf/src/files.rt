@@ -1,4 +1,4 @@
-ghost use Rattle.std.specs.Prelude.{◌≡◌, option_map, Option, map, string_bytes};
+ghost use Rattle.std.specs.Prelude.{◌≡◌, option_map, map, string_bytes};
 ghost use Rattle.std.specs.List.{list_all};
 ghost use Rattle.ifl_conf.specs.Front.{is_plain};
 ghost use Rattle.ifl_conf.specs.FileWords.{is_filled, files_of};

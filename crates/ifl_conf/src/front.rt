@@ -1,4 +1,4 @@
-ghost use Rattle.std.specs.Prelude.{◌≡◌, ◌==◌, option_map, Option, None, Some, IfOk, IfErr, map, string_bytes, List, ℕ};
+ghost use Rattle.std.specs.Prelude.{◌≡◌, option_map, IfOk, IfErr, map, string_bytes};
 ghost use Rattle.ifl_conf.specs.Front.{is_plain, one_word, two_words, front};
 ghost use Rattle.ifl_conf.specs.GivenOption.{given};
 ghost use Rattle.ifl_conf.specs.declared.word_fault.WordFault.TheVariants.{Memory};

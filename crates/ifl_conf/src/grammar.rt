@@ -1,4 +1,4 @@
-ghost use Rattle.std.specs.Prelude.{◌≡◌, option_map, Option, map, string_bytes};
+ghost use Rattle.std.specs.Prelude.{◌≡◌, option_map, map, string_bytes};
 ghost use Rattle.ifl_conf.specs.Options.{takes_files};
 ghost use Rattle.ifl_conf.specs.Grammar.{value_of, is_given, are_distinct, has_required, has_both_or_neither, has_numbers, is_of_grammar};
 ghost use Rattle.ifl_conf.specs.GivenOption.{given};

@@ -1,5 +1,5 @@
-ghost use Rattle.std.specs.Prelude.{◌≡◌, option_map, Option, None, Some};
-ghost use Rattle.ifl_conf.specs.Keys.{row, keys, same_place, is_key, is_table_name};
+ghost use Rattle.std.specs.Prelude.{◌≡◌, option_map, Some};
+ghost use Rattle.ifl_conf.specs.Keys.{row, same_place, is_key, is_table_name};
 
 use std::fmt;
 

@@ -1,4 +1,4 @@
-ghost use Rattle.std.specs.Prelude.{◌≡◌, ◌≤◌, true, Some, Option, IfOk, IfErr, IfSome, option_map, map, string_bytes};
+ghost use Rattle.std.specs.Prelude.{◌≡◌, ◌≤◌, true, Some, IfOk, IfErr, IfSome, option_map, map, string_bytes};
 ghost use Rattle.std.specs.Str.Parse.{digits_value};
 ghost use Rattle.ifl_conf.specs.Grammar.{value_of, is_given, is_number_within, has_numbers, is_of_grammar};
 ghost use Rattle.ifl_conf.specs.GivenOption.{given};

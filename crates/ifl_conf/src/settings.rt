@@ -1,6 +1,5 @@
 ghost use Rattle.std.specs.Prelude.{◌≡◌, ◌≤◌, ◌+◌};
 ghost use Rattle.ifl_conf.specs.Parts.{parts};
-ghost use Rattle.ifl_conf.specs.declared.choices.Start.{Start};
 ghost use Rattle.ifl_conf.specs.declared.choices.Start.TheVariants.{AfterSenders};
 ghost use Rattle.ifl_conf.specs.declared.choices.Policy.TheVariants.{Drop};
 

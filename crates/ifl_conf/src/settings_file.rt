@@ -1,4 +1,4 @@
-ghost use Rattle.std.specs.Prelude.{◌<◌, ◌≡◌, ◌≢◌, ◌≤◌, ◌+◌, ℕ, Some, None, Option, MatchResult, IfNone, IfOk, IfErr, true};
+ghost use Rattle.std.specs.Prelude.{◌<◌, ◌≡◌, ◌≢◌, ◌≤◌, ◌+◌, Some, None, Option, MatchResult, IfNone, IfOk, IfErr, true};
 ghost use Rattle.std.specs.List.{AllByRecursion};
 ghost use Rattle.toml.specs.View.{table_view};
 ghost use Rattle.ifl_conf.specs.Keys.{Setting, adapter_keys, frames_keys, pool_keys};

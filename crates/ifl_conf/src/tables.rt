@@ -1,4 +1,3 @@
-ghost use Rattle.std.specs.Prelude.{◌≡◌};
 ghost use Rattle.toml.specs.View.{table_view};
 ghost use Rattle.ifl_conf.specs.Keys.{ring_keys, adapter_keys, frames_keys, pool_keys, stop_keys, rx_keys};
 ghost use Rattle.ifl_conf.specs.Documents.{AreSetTo};

@@ -1,4 +1,4 @@
-ghost use Rattle.std.specs.Prelude.{◌≡◌, ◌≤◌, option_map, Option, IfOk, IfSome};
+ghost use Rattle.std.specs.Prelude.{◌≡◌, ◌≤◌, option_map, IfOk, IfSome};
 ghost use Rattle.toml.specs.View.{view, table_view};
 ghost use Rattle.ifl_conf.specs.Keys.{row, between, truth, number, flag, word};
 ghost use Rattle.ifl_conf.specs.Documents.{set_in, as_setting, IsSetTo};

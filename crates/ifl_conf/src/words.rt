@@ -1,4 +1,4 @@
-ghost use Rattle.std.specs.Prelude.{◌≡◌, option_map, Option, None, Some};
+ghost use Rattle.std.specs.Prelude.{◌≡◌};
 ghost use Rattle.ifl_conf.specs.Options.{command_named, writes_files, option_text, option_named, has_value, takes};
 
 /// The name of a command.

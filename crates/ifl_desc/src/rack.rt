@@ -1,8 +1,8 @@
 //! What an end holds of a ring. The adapters' ends are made of it.
-ghost use Rattle.std.specs.Prelude.{◌≡◌, ℕ, ◌+◌, ◌-◌, ◌%◌, ◌<◌, ◌≤◌, ◌∷◌, ◌++◌, length, take, drop, suc, [], MatchOption, vec_capacity};
+ghost use Rattle.std.specs.Prelude.{◌≡◌, ◌+◌, ◌<◌, ◌≤◌, ◌∷◌, ◌++◌, length, take, drop, suc, [], vec_capacity};
 ghost use Rattle.ifl_desc.specs.Rule.{Slot};
 ghost use Rattle.ifl_desc.specs.Rack.{SameSeat, IsRack, placed, taken, ahead, seen_of, spin};
-ghost use Rattle.ifl_desc.specs.History.{other, sent, known};
+ghost use Rattle.ifl_desc.specs.History.{other, sent};
 ghost use lib.ListN.{get_elem?};
 ghost use mathlib.Core.Option.{some};
 

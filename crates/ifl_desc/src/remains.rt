@@ -1,5 +1,5 @@
 //! What an adapter's `close` gathers.
-ghost use Rattle.std.specs.Prelude.{◌≡◌, length, ◌≤◌};
+ghost use Rattle.std.specs.Prelude.{◌≡◌};
 ghost use Rattle.ifl_desc.specs.Closed.{IsClosed, left_of, remains_of};
 ghost use Rattle.ifl_desc.specs.Rack.{seen_at};
 

@@ -1,5 +1,5 @@
 //! A ring of descriptors between a driver and a device.
-ghost use Rattle.std.specs.Prelude.{◌≡◌, ℕ, ◌+◌, ◌-◌, ◌%◌, ◌<◌, ◌≤◌, ◌⊎◌, length, [], IfOk, IfErr, Err};
+ghost use Rattle.std.specs.Prelude.{◌≡◌, ℕ, ◌%◌, ◌<◌, ◌≤◌, ◌⊎◌, [], IfOk, Err};
 ghost use Rattle.ifl_desc.specs.declared.desc.DescFault.TheVariants.{BadSize};
 ghost use Rattle.ifl_desc.specs.Frames.{open_after, IsSettled};
 ghost use Rattle.ifl_desc.specs.Ends.{IsDriver, IsDevice, IsNewDriver, IsNewDevice, room_of, rung, completed};

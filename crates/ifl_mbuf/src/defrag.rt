@@ -1,8 +1,8 @@
 // A chain's bytes laid anew into its first clusters.
-ghost use Rattle.std.specs.Prelude.{◌≡◌, ◌+◌, ◌<◌, ◌≤◌, [], ◌∷◌, ◌++◌, length};
+ghost use Rattle.std.specs.Prelude.{◌≡◌, ◌+◌, ◌<◌, [], ◌∷◌, ◌++◌, length};
 ghost use Rattle.std.specs.Int.{div_ceil};
 ghost use Rattle.ifl_mbuf.specs.Defrag.{laid, IsDense, IsFilling};
-ghost use Rattle.ifl_mbuf.specs.Segment.{Segment, IsFilled, bytes_of, numbers_of, size};
+ghost use Rattle.ifl_mbuf.specs.Segment.{IsFilled, bytes_of, numbers_of, size};
 
 use crate::chain::Chain;
 use crate::freed::Freed;

@@ -1,8 +1,6 @@
 // A list of nodes, linked through the nodes. Nothing here takes memory.
-ghost use Rattle.std.specs.Prelude.{◌≡◌, ℕ, ◌+◌, ◌<◌, List, [], ◌∷◌, ◌++◌, length};
+ghost use Rattle.std.specs.Prelude.{◌≡◌, ◌+◌, ◌<◌, List, [], ◌∷◌, ◌++◌, length};
 ghost use Rattle.std.specs.Coded.{prop_coded};
-ghost use denote.RawPtr.{Ptr};
-ghost use Rattle.ifl_mbuf.specs.declared.node.Node.{Node};
 ghost use Rattle.ifl_mbuf.specs.Nodes.{Placed, IsLinked, is_linked_prop, nodes_own, nodes_lent, bodies, place_of, body_of};
 
 use crate::node::{Node, Place};

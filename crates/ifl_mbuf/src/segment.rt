@@ -1,4 +1,4 @@
-ghost use Rattle.std.specs.Prelude.{◌≡◌, ◌+◌, ◌-◌, ◌≤◌, length};
+ghost use Rattle.std.specs.Prelude.{◌≡◌, ◌≤◌, length};
 ghost use Rattle.ifl_mbuf.specs.Segment.{extended, room, Segment};
 ghost use Rattle.ifl_mbuf.specs.Trim.{behind, shortened};
 

@@ -1,4 +1,4 @@
-ghost use Rattle.std.specs.Prelude.{◌≡◌, ◌≤◌, ◌+◌, ◌<◌, ℕ, List, length, drop, IfOk, IfErr, Ok, Err};
+ghost use Rattle.std.specs.Prelude.{◌≡◌, ◌≤◌, ◌+◌, ℕ, List, length, drop, IfOk, IfErr, Ok, Err};
 ghost use Rattle.ifl_pcap.specs.declared.frame.Frame.{Frame};
 ghost use Rattle.ifl_pcap.specs.declared.fault.CaptureWhy.{CaptureWhy};
 ghost use Rattle.ifl_pcap.specs.declared.fault.CaptureFault.TheVariants.{Bad};

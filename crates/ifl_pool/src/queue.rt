@@ -3,7 +3,7 @@ ghost use Rattle.std.specs.Prelude.{◌≡◌, ◌+◌, ◌≤◌, [], length, v
 ghost use Rattle.ifl_base.specs.declared.limits.TheConstants.{PART};
 ghost use Rattle.crossbeam_queue.specs.Fifo.{Pushes as PushKeeps, Learns};
 ghost use Rattle.crossbeam_queue.specs.Passes.{view, IsSamePass, IsPassOf, ruled_capacity};
-ghost use Rattle.ifl_pool.specs.Queue.{IsConserved, moved_after_fill, moved_after_pop, moved_after_push};
+ghost use Rattle.ifl_pool.specs.Queue.{IsConserved, moved_after_pop, moved_after_push};
 
 use crate::moves::{Fills, Moved, Pops, Pushes, QueueRule};
 use crossbeam_queue::protocol::{Lesson, Outcome};

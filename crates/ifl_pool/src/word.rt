@@ -1,5 +1,5 @@
 //! The word, which holds how many clusters are in the pool.
-ghost use Rattle.std.specs.Prelude.{◌≡◌, ◌+◌, ◌≤◌, [], IfOk};
+ghost use Rattle.std.specs.Prelude.{◌≡◌, ◌≤◌, [], IfOk};
 ghost use Rattle.std.specs.Bool.{OnTrue, OnFalse};
 ghost use Rattle.ifl_pool.specs.declared.history.Event.TheVariants.{Take, Give, Empty};
 ghost use Rattle.ifl_pool.specs.Passes.{IsPass, Did, OnlySaw, Joined};

@@ -1,5 +1,4 @@
 //! A drainer in a box.
-ghost use Rattle.std.specs.Prelude.{◌≡◌, ◌≤◌, List, ◌++◌, map, take, drop, length};
 
 use crate::drainer::Drainer;
 use std::collections::VecDeque;

@@ -1,5 +1,5 @@
 //! What the ring carries, and who takes it out.
-ghost use Rattle.std.specs.Prelude.{◌≡◌, ℕ, ◌<◌, ◌≤◌, List, ◌++◌, map, take, drop, length};
+ghost use Rattle.std.specs.Prelude.{◌≡◌, ◌≤◌, List, ◌++◌, map, take, drop, length};
 ghost use Rattle.std.specs.VecDeque.{deque_capacity};
 ghost use Rattle.ifl_ringcore.specs.declared.history.Meaning.{Meaning};
 

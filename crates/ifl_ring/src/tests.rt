@@ -1,6 +1,5 @@
 ghost use Rattle.std.specs.Prelude.{true, ◌≡◌, ◌≤◌, [], drop, length, IfOk};
 ghost use Rattle.std.specs.VecDeque.{deque_capacity};
-ghost use Rattle.ifl_ringcore.specs.declared.history.Meaning.{Meaning};
 
 mod sending;
 

@@ -1,5 +1,5 @@
 ghost use Rattle.std.specs.Prelude.{◌≡◌};
-ghost use Rattle.ifl_ringcore.specs.Counters.{nothing_counted, plus, capped};
+ghost use Rattle.ifl_ringcore.specs.Counters.{plus, capped};
 
 /// What a ring's history counts. Each number stays at `u64::MAX` once it has reached it.
 #[derive(Clone, Copy, Debug, PartialEq, Eq)]

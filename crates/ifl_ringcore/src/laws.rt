@@ -1,10 +1,10 @@
 //! Laws above the definitions, in the ring's own words. Each is a function that does nothing, and its contract
 //! is the law.
 
-ghost use Rattle.std.specs.Prelude.{◌≡◌, ◌≢◌, ◌≤◌, ◌<◌, ◌+◌, ◌-◌, ◌*◌, ◌%◌, ◌^◌, ◌++◌, ◌∷◌, [], ◌↔◌, ℕ, Bool, not, List, length, None, IsSome, nat_eq};
+ghost use Rattle.std.specs.Prelude.{◌≡◌, ◌≤◌, ◌<◌, ◌+◌, ◌-◌, ◌*◌, ◌%◌, ◌^◌, ◌++◌, ◌∷◌, [], ◌↔◌, ℕ, Bool, not, List, length, None, IsSome};
 ghost use Rattle.ifl_base.specs.declared.word.Flag.TheVariants.{Idle, Busy};
 ghost use Rattle.ifl_base.specs.Space.{space};
-ghost use Rattle.ifl_base.specs.Word.{pack, number_of};
+ghost use Rattle.ifl_base.specs.Word.{number_of};
 ghost use Rattle.ifl_ringcore.specs.declared.event.Event.{Event};
 ghost use Rattle.ifl_ringcore.specs.declared.history.Entry.{Entry};
 ghost use Rattle.ifl_ringcore.specs.declared.history.Meaning.{Meaning};

@@ -1,4 +1,4 @@
-ghost use Rattle.std.specs.Prelude.{◌≡◌, ◌&&◌, ◌||◌, not, nat_le, nat_eq};
+ghost use Rattle.std.specs.Prelude.{◌≡◌, ◌||◌, nat_le, nat_eq};
 ghost use Rattle.ifl_ringcore.specs.Table.{conditions, first_failing, is_within, is_busy, is_left};
 
 use crate::event::Event;

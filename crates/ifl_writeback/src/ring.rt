@@ -1,5 +1,5 @@
 //! The ring.
-ghost use Rattle.std.specs.Prelude.{◌≡◌, ℕ, ◌+◌, ◌-◌, ◌%◌, ◌<◌, ◌≤◌, length, [], vec_capacity};
+ghost use Rattle.std.specs.Prelude.{◌≡◌, ◌+◌, ◌≤◌, [], vec_capacity};
 ghost use Rattle.ifl_desc.specs.Plays.{whole};
 ghost use Rattle.ifl_desc.specs.Ends.{IsNewDriver, IsNewDevice};
 ghost use Rattle.ifl_desc.specs.Closed.{HaveMet, Closes, IsClosed};

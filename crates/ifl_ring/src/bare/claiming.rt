@@ -1,7 +1,6 @@
 //! A seat reserves places, or is refused.
-ghost use Rattle.std.specs.Prelude.{◌⊎◌, true, false, ◌≡◌, ◌≢◌, ◌+◌, ◌<◌, ◌≤◌, ℕ, ◌%◌, [], ◌∷◌, ◌++◌, map, length, IfOk, IfErr, IfSome, IfNone, MatchOption};
-ghost use Rattle.std.specs.VecDeque.{deque_capacity};
-ghost use Rattle.ifl_base.specs.Space.{space, advanced};
+ghost use Rattle.std.specs.Prelude.{◌≡◌, ◌<◌, ◌≤◌, [], ◌∷◌, IfOk, IfErr};
+ghost use Rattle.ifl_base.specs.Space.{space};
 ghost use Rattle.ifl_base.specs.Word.{pack, IsWithin};
 ghost use Rattle.ifl_ringcore.specs.declared.history.Entry.{Entry};
 ghost use Rattle.ifl_ringcore.specs.declared.history.Step.TheVariants as step;

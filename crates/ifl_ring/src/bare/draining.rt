@@ -1,21 +1,11 @@
 //! The drain: rounds of batches, each of which ends with a step on the word.
-ghost use Rattle.std.specs.Prelude.{◌⊎◌, true, false, ◌≡◌, ◌≢◌, ◌+◌, ◌<◌, ◌≤◌, ℕ, ◌%◌, [], ◌∷◌, ◌++◌, map, length, take, drop, IfOk, IfErr};
-ghost use Rattle.ifl_ring.specs.Tells.{Looks, Looked, Names, Joined, Reserves, Same, nothing, place_of, Behinds, Electing, Handed, HasTurn, HoldsAt, Leaves, Advances, Parked, MayPart, Went, TakesOver};
-ghost use Rattle.ifl_ring.specs.Draining.{IsFresh, Drives, Consuming, EndsRound, GoesOn, IsOver};
+ghost use Rattle.std.specs.Prelude.{◌⊎◌, true, false, ◌≡◌, ◌≢◌, ◌+◌, ◌<◌, ◌≤◌, ℕ, ◌%◌, [], length};
+ghost use Rattle.ifl_ring.specs.Tells.{Parked};
+ghost use Rattle.ifl_ring.specs.Draining.{IsFresh, Drives, Consuming, EndsRound, GoesOn};
 ghost use Rattle.ifl_ring.specs.Calls.{IsDrain, IsTotal};
 ghost use Rattle.ifl_ring.specs.Tally.{drain_rise};
 ghost use Rattle.ifl_ring.specs.Trails.{IsLived, IsRelease, Trails};
-ghost use Rattle.ifl_ring.specs.Acts.{out_all, laid, items_in, IsOpening, IsPostFirst, IsItemFirst, InFront, Gathered};
-ghost use Rattle.std.specs.VecDeque.{deque_capacity};
-ghost use Rattle.atomic_table.specs.Table.{rest};
-ghost use Rattle.ifl_ring.specs.Law.{left_known, right_known, IsAtRest, first_view};
-ghost use Rattle.ifl_base.specs.Word.{pack};
-ghost use Rattle.ifl_ringcore.specs.State.{ring_word, first_state};
-ghost use Rattle.ifl_ringcore.specs.History.{state_after};
-ghost use Rattle.ifl_base.specs.Word.{IsWithin};
-ghost use Rattle.ifl_ring.specs.Words.{IsWordOf};
-ghost use Rattle.ifl_ringcore.specs.Conditions.{IsBatch};
-ghost use Rattle.ifl_base.specs.Space.{space, advanced};
+ghost use Rattle.ifl_ring.specs.Law.{IsAtRest};
 
 use crate::bare::{BareRing, BareSeat};
 use crate::drainer::{Drainer, RingItem};

@@ -1,5 +1,5 @@
 //! A seat publishes what it laid into its places, and drains where nobody else does.
-ghost use Rattle.std.specs.Prelude.{true, false, ◌≡◌, ◌≢◌, ◌<◌, ◌≤◌, ℕ, [], ◌∷◌, ◌++◌, map, length, IfOk, IfErr};
+ghost use Rattle.std.specs.Prelude.{◌≡◌, ◌<◌, ◌≤◌, [], map, length, IfOk, IfErr};
 ghost use Rattle.std.specs.VecDeque.{deque_capacity};
 ghost use Rattle.ifl_base.specs.declared.limits.TheConstants.{MAX_BATCH};
 ghost use Rattle.ifl_base.specs.Word.{IsWithin};

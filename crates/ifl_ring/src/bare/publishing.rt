@@ -1,21 +1,15 @@
 //! Steps by which a seat reserves places and publishes its items.
-ghost use Rattle.std.specs.Prelude.{◌⊎◌, true, false, ◌≡◌, ◌≢◌, ◌+◌, ◌<◌, ◌≤◌, ℕ, ◌%◌, [], ◌∷◌, ◌++◌, map, length, take, drop, IfOk, IfErr};
-ghost use Rattle.ifl_ringcore.specs.Counters.{nothing_counted};
-ghost use Rattle.ifl_ring.specs.Trails.{IsLived, Trails};
-ghost use Rattle.ifl_ring.specs.Tells.{Abdicates, Looks, Looked, Names, Joined, Reserves, Same, nothing, place_of, Behinds, Electing, Handed, HasTurn, HoldsAt, Leaves, Advances, Parked, MayPart, Went, TakesOver};
-ghost use Rattle.ifl_ring.specs.Draining.{Drives, Consuming, EndsRound, GoesOn, IsOver};
-ghost use Rattle.ifl_ring.specs.Calls.{AreLooks};
-ghost use Rattle.ifl_ring.specs.Acts.{out_all, laid, items_in, IsOpening, IsPostFirst, IsItemFirst, InFront, Gathered};
-ghost use Rattle.std.specs.VecDeque.{deque_capacity};
+ghost use Rattle.std.specs.Prelude.{◌≡◌, ◌≢◌, ◌<◌, [], map, IfOk, IfErr};
+ghost use Rattle.ifl_ring.specs.Tells.{Abdicates, Looks, Reserves, Same, nothing, place_of, Behinds, Electing, Handed, HasTurn};
+ghost use Rattle.ifl_ring.specs.Acts.{out_all, items_in};
 ghost use Rattle.atomic_table.specs.Table.{rest};
-ghost use Rattle.ifl_ring.specs.Law.{Has, left_known, right_known, IsAtRest, first_view};
+ghost use Rattle.ifl_ring.specs.Law.{Has, IsAtRest};
 ghost use Rattle.ifl_base.specs.Word.{pack};
-ghost use Rattle.ifl_ringcore.specs.State.{ring_word, first_state};
+ghost use Rattle.ifl_ringcore.specs.State.{first_state};
 ghost use Rattle.ifl_ringcore.specs.History.{state_after};
 ghost use Rattle.ifl_base.specs.Word.{IsWithin};
-ghost use Rattle.ifl_ring.specs.Words.{IsWordOf};
 ghost use Rattle.ifl_ringcore.specs.Conditions.{IsBatch};
-ghost use Rattle.ifl_base.specs.Space.{space, advanced};
+ghost use Rattle.ifl_base.specs.Space.{space};
 
 use crate::bare::{BareRing, BareSeat, read};
 use crate::drainer::{Drainer, RingItem};

@@ -1,5 +1,5 @@
 //! Looking at the word, and making two seats of one and one of two.
-ghost use Rattle.std.specs.Prelude.{◌≡◌, ◌≤◌, []};
+ghost use Rattle.std.specs.Prelude.{◌≡◌, ◌≤◌};
 ghost use Rattle.ifl_base.specs.Word.{IsWithin};
 ghost use Rattle.ifl_ring.specs.Law.{left_known, right_known, Rests};
 ghost use Rattle.ifl_ring.specs.Tells.{Looked, Names, Joined};

@@ -1,19 +1,9 @@
 //! What a seat does with the slots that it has.
-ghost use Rattle.std.specs.Prelude.{◌⊎◌, true, false, ◌≡◌, ◌≢◌, ◌+◌, ◌<◌, ◌≤◌, ℕ, ◌%◌, [], ◌∷◌, ◌++◌, map, length, take, drop, IfOk, IfErr};
-ghost use Rattle.ifl_ring.specs.Tells.{Looks, Looked, Names, Joined, Reserves, Same, nothing, place_of, Behinds, Electing, Handed, HasTurn, HoldsAt, Leaves, Advances, Parked, MayPart, Went, TakesOver};
-ghost use Rattle.ifl_ring.specs.Draining.{Drives, Consuming, EndsRound, GoesOn, IsOver};
-ghost use Rattle.ifl_ring.specs.Calls.{IsTotal};
-ghost use Rattle.ifl_ring.specs.Acts.{out_all, laid, items_in, IsOpening, IsPostFirst, IsItemFirst, InFront, Gathered};
+ghost use Rattle.std.specs.Prelude.{◌≡◌, ◌+◌, ◌<◌, ◌≤◌, ℕ, ◌%◌, [], ◌∷◌, ◌++◌, length, take, drop, IfOk, IfErr};
+ghost use Rattle.ifl_ring.specs.Tells.{nothing};
+ghost use Rattle.ifl_ring.specs.Acts.{out_all, laid, IsOpening, IsPostFirst, IsItemFirst, InFront, Gathered};
 ghost use Rattle.std.specs.VecDeque.{deque_capacity};
 ghost use Rattle.atomic_table.specs.Table.{rest};
-ghost use Rattle.ifl_ring.specs.Law.{left_known, right_known, IsAtRest, first_view};
-ghost use Rattle.ifl_base.specs.Word.{pack};
-ghost use Rattle.ifl_ringcore.specs.State.{ring_word, first_state};
-ghost use Rattle.ifl_ringcore.specs.History.{state_after};
-ghost use Rattle.ifl_base.specs.Word.{IsWithin};
-ghost use Rattle.ifl_ring.specs.Words.{IsWordOf};
-ghost use Rattle.ifl_ringcore.specs.Conditions.{IsBatch};
-ghost use Rattle.ifl_base.specs.Space.{space, advanced};
 
 use crate::bare::{BareRing, BareSeat};
 use crate::drainer::Drainer;
