@@ -12,6 +12,7 @@ use lib.ListN.{get_elem?}
 use Rattle.atomic_table.specs.Table.{State, Me, Final, Seen}
 use Rattle.ifl_base.specs.declared.limits.TheConstants.{PART}
 use Rattle.ifl_base.specs.declared.word.RingWord.{RingWord}
+use Rattle.ifl_base.specs.declared.word.Flag.TheVariants.{Stalled}
 use Rattle.ifl_base.specs.Word.{pack, IsWithin}
 use Rattle.ifl_ringcore.specs.declared.history.Entry.{Entry}
 use Rattle.ifl_ringcore.specs.declared.history.Meaning.{Meaning}
@@ -141,7 +142,7 @@ among stands (e ∷ es) h = (
 )
 
 -- what is left of a table when a ring is closed
-pub record Ends {I D O : Type 0} (meaning : I → Meaning) (origin : D → O) (settled : D → Type 0) (stands_for : D → List Meaning → Type 0) (size : ℕ) (o : O) (history : List Entry) (stands : List ℕ) (words : List ℕ) (slots : List (Place I D)) : Type 0 where
+pub record Ends {I D O : Type 0} (meaning : I → Meaning) (origin : D → O) (settled full : D → Type 0) (stands_for : D → List Meaning → Type 0) (size : ℕ) (o : O) (history : List Entry) (stands : List ℕ) (words : List ℕ) (slots : List (Place I D)) : Type 0 where
   pub ended : IsEnded size history
   pub all : AreAmong stands history
   pub word : words ≡ pack (ring_word size (state_after first_state history)) ∷ []
@@ -153,6 +154,7 @@ pub record Ends {I D O : Type 0} (meaning : I → Meaning) (origin : D → O) (s
   pub taken : stands_for drainer (released_after history)
   pub batch_is : batch.items ≡ []
   pub room : HasRoom size batch
+  pub stalled : (state_after first_state history).flag ≡ Stalled → full drainer
   pub left_are : map meaning (items_lying (row_from size (state_after first_state history).released slots)) ≡ left_after history
 
 module _ {I D O : Type 0} (meaning : I → Meaning) (origin : D → O) (settled full : D → Type 0) (stands_for : D → List Meaning → Type 0) where
@@ -160,7 +162,7 @@ module _ {I D O : Type 0} (meaning : I → Meaning) (origin : D → O) (settled 
   Law = Lawful meaning origin settled full stands_for
 
   pub ends : (key : Key O) (words : List ℕ) (slots : List (Place I D)) (id : ℕ) (v : View O) → IsAtRest v.known → v.told ≡ [] → v.known.part ≡ PART → Final (Seen (Law key) id v) words slots
-      → Ends meaning origin settled stands_for key.size key.origin v.known.seen v.known.stands words slots
+      → Ends meaning origin settled full stands_for key.size key.origin v.known.seen v.known.stands words slots
   ends key words slots id v rest still all f =
       let s : State (Place I D) (View O) = f.0 in let l : Law key s = f.1.0 in let size : ℕ = key.size in let pos : 0 < key.size = l.some_size in
       let t = closes meaning origin settled full stands_for key s l id v f.1.1 rest still all in let seen : List Entry = v.known.seen in
@@ -198,6 +200,7 @@ module _ {I D O : Type 0} (meaning : I → Meaning) (origin : D → O) (settled 
         taken = subst (λ (z : RingState). stands_for post.0 (take z.released z.items)) now_is post.5;
         batch_is = post.6;
         room = post.7;
+        stalled = subst (λ (z : RingState). z.flag ≡ Stalled → full post.0) now_is post.8;
         left_are = subst (λ (z : RingState). map meaning (items_lying (row_from size z.released slots)) ≡ drop z.released z.items) now_is lie;
       }
 
@@ -222,12 +225,12 @@ module _ {I D : Type 0} where
 module _ {I D O : Type 0} (meaning : I → Meaning) (origin : D → O) (settled full : D → Type 0) (stands_for : D → List Meaning → Type 0) where
   -- the same at the size that the ring keeps
   pub ends_at : (key : Key O) (size : ℕ) (words : List ℕ) (slots : List (Place I D)) (id : ℕ) (m : Me (Place I D) (View O)) → key.size ≡ size → Rests m → m.0.known.part ≡ PART
-      → Final (Seen (Lawful meaning origin settled full stands_for key) id m.0) words slots → Ends meaning origin settled stands_for size key.origin m.0.known.seen m.0.known.stands words slots
-  ends_at key size words slots id m sized rests all f = subst (λ (z : ℕ). Ends meaning origin settled stands_for z key.origin m.0.known.seen m.0.known.stands words slots) sized
+      → Final (Seen (Lawful meaning origin settled full stands_for key) id m.0) words slots → Ends meaning origin settled full stands_for size key.origin m.0.known.seen m.0.known.stands words slots
+  ends_at key size words slots id m sized rests all f = subst (λ (z : ℕ). Ends meaning origin settled full stands_for z key.origin m.0.known.seen m.0.known.stands words slots) sized
       (ends meaning origin settled full stands_for key words slots id m.0 rests.0 rests.1 all f)
 
-module _ {I D O : Type 0} (meaning : I → Meaning) (origin : D → O) (settled : D → Type 0) (stands_for : D → List Meaning → Type 0) (size : ℕ) (o : O) (history : List Entry) (stands words : List ℕ) (slots : List (Place I D))
-    (e : Ends meaning origin settled stands_for size o history stands words slots) where
+module _ {I D O : Type 0} (meaning : I → Meaning) (origin : D → O) (settled full : D → Type 0) (stands_for : D → List Meaning → Type 0) (size : ℕ) (o : O) (history : List Entry) (stands words : List ℕ) (slots : List (Place I D))
+    (e : Ends meaning origin settled full stands_for size o history stands words slots) where
   pub word_ends : (n : ℕ) → get_elem? words 0 ≡ some n → n ≡ pack (ring_word size (state_after first_state history))
   word_ends n at = some-injective n (pack (ring_word size (state_after first_state history))) (sym at ∙ ap (λ (z : List ℕ). get_elem? z 0) e.word)
 
@@ -242,7 +245,7 @@ module _ {I D O : Type 0} (meaning : I → Meaning) (origin : D → O) (settled 
   batch_room d q at = subst (λ (z : VecDeque I Global). (length z.items ≡ 0) × (size ≤ deque_capacity z)) (sym (batch_ends d q at)) (ap length e.batch_is, e.room.1)
 
   pub closes_with : (n : ℕ) (w : RingWord) (d : D) (q : VecDeque I Global) (left1 left2 : List I) → 0 < size → size ≤ 65536 → get_elem? words 0 ≡ some n → pack w ≡ n → IsWithin size w → get_elem? slots size ≡ some (Post d q)
-      → left1 ≡ q.items ++ items_lying (take (size - w.cidx) (drop w.cidx slots)) → left2 ≡ left1 ++ items_lying (take (w.cidx - 0) (drop 0 slots)) → IsClosed meaning size history w left2 × IsHandedBack origin settled stands_for o history d
+      → left1 ≡ q.items ++ items_lying (take (size - w.cidx) (drop w.cidx slots)) → left2 ≡ left1 ++ items_lying (take (w.cidx - 0) (drop 0 slots)) → IsClosed meaning size history w left2 × IsHandedBack origin settled full stands_for o history d
   closes_with n w d q left1 left2 pos small at packs within there one two =
       let st : RingState = state_after first_state history in
       let is : ring_word size st ≡ w = word_is size st w pos small within (sym (word_ends n at) ∙ sym packs) in
@@ -258,6 +261,7 @@ module _ {I D O : Type 0} (meaning : I → Meaning) (origin : D → O) (settled 
           settled_is = subst settled d_is e.settled_is;
           origin_is = ap origin (sym d_is) ∙ e.origin_is;
           stands = subst (λ (z : D). stands_for z (released_after history)) d_is e.taken;
+          stalled = λ is. subst full d_is (e.stalled is);
         },
       )
 

@@ -1,6 +1,7 @@
 -- What a closed ring stands for.
 use Rattle.std.specs.Prelude.{◌≡◌, ℕ, List, [], ◌∷◌, map, take, drop, None}
 use Rattle.ifl_base.specs.declared.word.RingWord.{RingWord}
+use Rattle.ifl_base.specs.declared.word.Flag.TheVariants.{Stalled}
 use Rattle.ifl_ringcore.specs.declared.history.Entry.{Entry}
 use Rattle.ifl_ringcore.specs.declared.history.Meaning.{Meaning}
 use Rattle.ifl_ringcore.specs.State.{first_state, ring_word}
@@ -38,11 +39,12 @@ pub record IsClosed {I : Type 0} (meaning : I → Meaning) (size : ℕ) (history
   pub word : w ≡ ring_word size (state_after first_state history)
   pub left_are : map meaning left ≡ left_after history
 
--- a drainer that was made with o and has taken what was released
-pub record IsHandedBack {D O : Type 0} (origin : D → O) (settled : D → Type 0) (stands_for : D → List Meaning → Type 0) (o : O) (history : List Entry) (d : D) : Type 0 where
+-- a drainer that was made with o, has taken what was released, and is full where the word says stalled
+pub record IsHandedBack {D O : Type 0} (origin : D → O) (settled full : D → Type 0) (stands_for : D → List Meaning → Type 0) (o : O) (history : List Entry) (d : D) : Type 0 where
   pub settled_is : settled d
   pub origin_is : origin d ≡ o
   pub stands : stands_for d (released_after history)
+  pub stalled : (state_after first_state history).flag ≡ Stalled → full d
 
 -- each entry bears one of these numbers
 abbrev pub AreAmong : List ℕ → List Entry → Type 0

@@ -231,7 +231,7 @@ impl<D: Drainer> Ring<D> {
         ensures all { AreAmong seat.known.stands seat.known.seen }
         ensures counted { tally_of seat.known ≡ counters_of first_state seat.known.seen }
         ensures left { map D.Item.meaning result.0.left ≡ left_after seat.known.seen }
-        ensures drainer { IsHandedBack D.origin D.settled D.stands_for self.origin seat.known.seen result.1 }
+        ensures drainer { IsHandedBack D.origin D.settled D.full D.stands_for self.origin seat.known.seen result.1 }
     {
         let Ring { bare } = self;
         let Seat {

@@ -57,7 +57,7 @@ impl<D: Drainer> BareRing<D> {
         requires rest { Rests seat.me }
         requires whole { seat.me.0.known.part ≡ PART }
         ensures closed { IsClosed D.Item.meaning self.size seat.me.0.known.seen result.0 result.1.items }
-        ensures drainer { IsHandedBack D.origin D.settled D.stands_for (D.origin self.table.shared.key.drainer.value) seat.me.0.known.seen result.2 }
+        ensures drainer { IsHandedBack D.origin D.settled D.full D.stands_for (D.origin self.table.shared.key.drainer.value) seat.me.0.known.seen result.2 }
         ensures all { AreAmong seat.me.0.known.stands seat.me.0.known.seen }
     {
         let BareRing { table, size } = self;
