@@ -48,7 +48,7 @@ module _ {I D O : Type 0} (meaning : I → Meaning) (origin : D → O) (settled 
   Sh = Shelf meaning origin settled full stands_for
 
   post_rise : (size : ℕ) (st : RingState) (o : O) (done : List Meaning) (x : Option Consumer) (h : maybe.Option (maybe.Option (Place I D))) → Posted meaning origin settled full stands_for size st.flag o done x h → Posted meaning origin settled full stands_for size (risen st.flag) o done x h
-  post_rise size st o done None h p = (p.0, p.1, p.2, p.3, p.4, p.5, p.6, p.7, λ e. p.8 (still_stalled st.flag e))
+  post_rise size st o done None h p = (p.0, p.1, p.2, p.3, p.4, p.5, p.6, λ e. p.7 (still_stalled st.flag e))
   post_rise size st o done (Some d) h p = p
 
   shelf_rise : (size : ℕ) (o : O) (st : RingState) (j : ℕ) (xs : List Meaning) (hs : List (maybe.Option (Place I D))) → Sh size o (effect st j (Behind xs)) hs → Sh size o (effect st j (Abdicating xs)) hs

@@ -93,7 +93,7 @@ pub place_head : (size k : ℕ) (v w : Known) (word : RingWord) → 0 < size →
 place_head size k v w word pos small within t = ap (λ (z : RingWord). z.head) (sym (word_is size (state_after first_state (v.seen ++ t.made.between)) word pos small within (sym t.made.found))) ∙ ap (λ (z : ℕ). z % size) (sym t.place)
 
 pub placed : {I D O : Type 0} (size : ℕ) (v : Known) (word : RingWord) (m m' : Me (Place I D) (View O)) (item : I) → 0 < size → size ≤ 65536 → IsWithin size word → Has v.number v.stands → Reserves size 1 v (pack word) m.0.known → m.0.told ≡ []
-    → m' ≡ (m.0, (word.head, Item (Some item)) ∷ []) → HoldsAt size 1 word.head m' × (items_in m'.1 ≡ item ∷ [])
+    → m' ≡ (m.0, (word.head, Item item) ∷ []) → HoldsAt size 1 word.head m' × (items_in m'.1 ≡ item ∷ [])
 placed {I = I} {D = D} {O = O} size v word m m' item pos small within has t still is = let head = place_head size 1 v m.0.known word pos small within t in
     subst (λ (z : Me (Place I D) (View O)). HoldsAt size 1 word.head z × (items_in z.1 ≡ item ∷ [])) (sym is) (
       (
@@ -104,7 +104,7 @@ placed {I = I} {D = D} {O = O} size v word m m' item pos small within has t stil
           named = subst (λ (z : Known). Has z.number z.stands) (sym t.made.is) has;
           still = still;
           role = t.role;
-          lies = λ i. (head i, Item (Some item)) ∷ [];
+          lies = λ i. (head i, Item item) ∷ [];
         },
         head,
       ),

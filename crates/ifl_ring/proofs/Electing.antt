@@ -110,18 +110,18 @@ module _ {I D O : Type 0} (meaning : I → Meaning) (origin : D → O) (settled 
       let f : ℕ → Place I D = value hs1 size in let hs2 : List (maybe.Option (Place I D)) = homes_after hs1 cs1 (take_all f size now.released n) in
       let post = subst (λ (z : Option Consumer). Posted meaning origin settled full stands_for size now.flag key.origin (take now.released mid.items) z (get_elem? hs1 size)) no_drain sh1.posted in
       let sh3 = shelf_hand size key.origin mid j b n now.flag hs1 cs1 l.some_size all pr wi sh1 (omega arith) in
-      let act : Act (Place I D) = chain (give_all k) (chain (take_all f size now.released n) (takes size (Post post.0 post.1))) in
-      let ready' : (m : ℕ) → now.released ≤ m → m < now.released + n → (y : I) × (get_elem? hs1 (m % size) ≡ some (some (Item (Some y)))) × (get_elem? mid.items m ≡ some (meaning y)) = λ m lo hi. sh1.ready m (omega arith) (omega arith) in
+      let act : Act (Place I D) = chain (give_all k) (chain (take_all f size now.released n) (takes size (Post post.0))) in
+      let ready' : (m : ℕ) → now.released ≤ m → m < now.released + n → (y : I) × (get_elem? hs1 (m % size) ≡ some (some (Item y))) × (get_elem? mid.items m ≡ some (meaning y)) = λ m lo hi. sh1.ready m (omega arith) (omega arith) in
       let got = collect size meaning mid.items hs1 now.released n cs1 ready' in
       let valid : Valid s.homes (laid size now.published ys []) act = (
         gave_valid size now.published ys [] s.homes,
         (
           out_valid f size now.released n hs1 cs1 (omega arith) (λ m lo hi. let y = ready' m lo hi in y.1 ∙ sym (ap (λ (z : Place I D). some (some z)) (ap lying y.1))),
-          out_else f size now.released n size hs1 cs1 (λ i lo hi q. let near = mod-lt i l.some_size in omega arith) ∙ post.2,
+          out_else f size now.released n size hs1 cs1 (λ i lo hi q. let near = mod-lt i l.some_size in omega arith) ∙ post.1,
         ),
       ) in
-      let carried : carried_after (laid size now.published ys []) act ≡ (size, Post post.0 post.1) ∷ laid size now.released got.0 [] =
-      ap (λ (z : List (ℕ × Place I D)). (size, Post post.0 post.1) ∷ z) (out_carried f size now.released n cs1 ∙ got.2 ∙ ap (laid size now.released got.0) none1) in
+      let carried : carried_after (laid size now.published ys []) act ≡ (size, Post post.0) ∷ laid size now.released got.0 [] =
+      ap (λ (z : List (ℕ × Place I D)). (size, Post post.0) ∷ z) (out_carried f size now.released n cs1 ∙ got.2 ∙ ap (laid size now.released got.0) none1) in
       let counted' : length mid.items ≡ mid.published = length-append now.items xs ∙ ap (λ (z : ℕ). z + length xs) g.counted in
       let meant' : map meaning got.0 ≡ drop now.released mid.items = got.3 ∙ take-whole (drop now.released mid.items) n (length-drop now.released mid.items ∙ ap (λ (z : ℕ). z - now.released) counted') in
       let law' = steps meaning origin settled full stands_for key s l id v e (set hs2 size none) new at has refl is may next sh3 in
@@ -130,16 +130,15 @@ module _ {I D O : Type 0} (meaning : I → Meaning) (origin : D → O) (settled 
       let electing : Electing size b xs v.known x w'.known = record { made = mn.0; role = role' ∙ (λ i. (None, Some (elected j (sym end i).published b (sym mn.1 i).flag (sym end i).released))) } in
       let sits = l.each id v at in
       let handed : Handed meaning origin settled full stands_for size now'.released now'.items w'.origin (carried_after (laid size now.published ys []) act) = record {
-        drainer = post.0;
-        batch = post.1;
+        outlet = post.0;
         taken = got.0;
         has = carried;
         meant = meant';
-        settled_is = post.3;
-        origin_is = sits.born (part_of key.origin l.log l.now l.keeper id v sits has) ∙ ap (λ (z : O). Some z) (sym post.4);
-        stands = post.5;
-        batch_is = post.6;
-        room = post.7;
+        settled_is = post.2;
+        origin_is = sits.born (part_of key.origin l.log l.now l.keeper id v sits has) ∙ ap (λ (z : O). Some z) (sym post.3);
+        stands = post.4;
+        batch_is = post.5;
+        room = post.6;
       } in
       let tells' : Electing (slots - 1) b (map meaning (items_in me.1)) v.known x w'.known × Handed meaning origin settled full stands_for (slots - 1) (state_after first_state log').released (state_after first_state log').items w'.origin (carried_after me.1 act) = (
         subst (λ (z : ℕ × List Meaning). Electing z.0 b z.1 v.known x w'.known) (λ i. (slots_is i, map meaning (sym its i))) electing,

@@ -1,9 +1,8 @@
 -- The slots of a table that no seat shares any more are emptied, and what lies in them.
 use Rattle.std.proofs.Common.{◌≡◌, ℕ, zero, suc, ◌+◌, ◌-◌, ◌%◌, ◌<◌, ◌≤◌, ◌⊎◌, ⊎_elim, inl, inr, Bool, false, cond, List, [], ◌∷◌, ◌++◌, length, map, take, drop, set, get_or, sym, refl, ap, ◌∙◌, subst, arith, mod-lt, mod-eq_of_lt, length-append, length-take, length-drop, lt_of_not-le, eq-eqb, ne_eqb}
 use Rattle.std.proofs.Math.Nat.{mod-add-mod, add-mod_left}
-use Rattle.std.specs.Prelude.{Option, Some, None}
-use Rattle.std.specs.declared.alloc.Global.{Global}
-use Rattle.std.specs.declared.collections.VecDeque.{VecDeque}
+use Rattle.std.specs.Prelude.{Option}
+use Rattle.std.specs.Global.{Box}
 use Rattle.std.specs.VecDeque.{deque_capacity}
 use mathlib.Core.Option.{some, some-injective, some-ne-none}
 use mathlib.Core.Logic.{dite}
@@ -23,7 +22,8 @@ use Rattle.ifl_ringcore.specs.History.{state_after, own, IsLegalHistory}
 use Rattle.ifl_ringcore.specs.Invariant.{Cover, reach, reach_of, RingInvariant}
 use Rattle.ifl_ring.specs.declared.place.Key.{Key}
 use Rattle.ifl_ring.specs.declared.place.Place.{Place}
-use Rattle.ifl_ring.specs.declared.place.Place.TheVariants.{Item, Post, Away, Told, Parting}
+use Rattle.ifl_ring.specs.declared.place.Outlet.{Outlet}
+use Rattle.ifl_ring.specs.declared.place.Place.TheVariants.{Item, Vacant, Post, Away, Told, Parting}
 use Rattle.ifl_ring.specs.declared.view.View.{View}
 use Rattle.ifl_ring.specs.Acts.{item_in}
 use Rattle.ifl_ring.specs.Closed.{items_lying, IsEnded, IsClosed, IsHandedBack, AreAmong, left_after, released_after}
@@ -33,17 +33,17 @@ use Rattle.ifl_ring.proofs.Reserving.{word_is}
 
 module _ {I D : Type 0} where
   item_in-append : (p : Place I D) (xs ys : List I) → item_in p (xs ++ ys) ≡ item_in p xs ++ ys
-  item_in-append (Item (Some y)) xs ys = refl
-  item_in-append (Item None) xs ys = refl
-  item_in-append (Post d q) xs ys = refl
+  item_in-append (Item y) xs ys = refl
+  item_in-append Vacant xs ys = refl
+  item_in-append (Post b) xs ys = refl
   item_in-append Away xs ys = refl
   item_in-append (Told n) xs ys = refl
   item_in-append (Parting n f) xs ys = refl
 
   pub one_item : (p : Place I D) → length (item_in p []) ≤ 1
-  one_item (Item (Some y)) = omega arith
-  one_item (Item None) = omega arith
-  one_item (Post d q) = omega arith
+  one_item (Item y) = omega arith
+  one_item Vacant = omega arith
+  one_item (Post b) = omega arith
   one_item Away = omega arith
   one_item (Told n) = omega arith
   one_item (Parting n f) = omega arith
@@ -87,15 +87,15 @@ module _ {I D : Type 0} where
 
   -- a row of items, with nothing behind them
   items_lying-are : (meaning : I → Meaning) (row : List (Place I D)) (ms : List Meaning) → length ms ≤ length row
-      → ((j : ℕ) → j < length ms → (x : I) × (get_elem? row j ≡ some (Item (Some x))) × (get_elem? ms j ≡ some (meaning x)))
-      → ((j : ℕ) → length ms ≤ j → j < length row → get_elem? row j ≡ some (Item None)) → map meaning (items_lying row) ≡ ms
+      → ((j : ℕ) → j < length ms → (x : I) × (get_elem? row j ≡ some (Item x)) × (get_elem? ms j ≡ some (meaning x)))
+      → ((j : ℕ) → length ms ≤ j → j < length row → get_elem? row j ≡ some Vacant) → map meaning (items_lying row) ≡ ms
   items_lying-are meaning [] [] short items none_ = refl
   items_lying-are meaning [] (m ∷ ms) short items none_ = absurd (omega arith)
   items_lying-are meaning (p ∷ row) [] short items none_ =
-      let is : p ≡ Item None = some-injective p (Item None) (none_ 0 (omega arith) (omega arith)) in
+      let is : p ≡ Vacant = some-injective p Vacant (none_ 0 (omega arith) (omega arith)) in
       ap (λ (z : Place I D). map meaning (item_in z (items_lying row))) is ∙ items_lying-are meaning row [] (omega arith) (λ j h. absurd (omega arith)) (λ j l h. none_ (suc j) (omega arith) (omega arith))
   items_lying-are meaning (p ∷ row) (m ∷ ms) short items none_ = let t = items 0 (omega arith) in
-      let is : p ≡ Item (Some t.0) = some-injective p (Item (Some t.0)) t.1 in let mean : m ≡ meaning t.0 = some-injective m (meaning t.0) t.2 in
+      let is : p ≡ Item t.0 = some-injective p (Item t.0) t.1 in let mean : m ≡ meaning t.0 = some-injective m (meaning t.0) t.2 in
       let more = items_lying-are meaning row ms (omega arith) (λ j h. items (suc j) (omega arith)) (λ j l h. none_ (suc j) (omega arith) (omega arith)) in
       ap (λ (z : Place I D). map meaning (item_in z (items_lying row))) is ∙ (λ i. sym mean i ∷ more i)
 
@@ -146,15 +146,14 @@ pub record Ends {I D O : Type 0} (meaning : I → Meaning) (origin : D → O) (s
   pub ended : IsEnded size history
   pub all : AreAmong stands history
   pub word : words ≡ pack (ring_word size (state_after first_state history)) ∷ []
-  pub drainer : D
-  pub batch : VecDeque I Global
-  pub post : get_elem? slots size ≡ some (Post drainer batch)
-  pub settled_is : settled drainer
-  pub origin_is : origin drainer ≡ o
-  pub taken : stands_for drainer (released_after history)
-  pub batch_is : batch.items ≡ []
-  pub room : HasRoom size batch
-  pub stalled : (state_after first_state history).flag ≡ Stalled → full drainer
+  pub outlet : Box (Outlet I D)
+  pub post : get_elem? slots size ≡ some (Post outlet)
+  pub settled_is : settled outlet.value.drainer
+  pub origin_is : origin outlet.value.drainer ≡ o
+  pub taken : stands_for outlet.value.drainer (released_after history)
+  pub batch_is : outlet.value.batch.items ≡ []
+  pub room : HasRoom size outlet.value.batch
+  pub stalled : (state_after first_state history).flag ≡ Stalled → full outlet.value.drainer
   pub left_are : map meaning (items_lying (row_from size (state_after first_state history).released slots)) ≡ left_after history
 
 module _ {I D O : Type 0} (meaning : I → Meaning) (origin : D → O) (settled full : D → Type 0) (stands_for : D → List Meaning → Type 0) where
@@ -180,9 +179,9 @@ module _ {I D O : Type 0} (meaning : I → Meaning) (origin : D → O) (settled 
       let ms_long : length ms ≡ l.now.published - l.now.released = length-drop l.now.released l.now.items ∙ ap (λ (z : ℕ). z - l.now.released) counted in
       let lie = items_lying-are meaning row ms (omega arith)
       (λ j h. let m : ℕ = l.now.released + j in let r = sh.ready m (omega arith) (omega arith) in
-      (r.0, row_from-at size l.now.released slots j pos (omega arith) (omega arith) ∙ at_home (m % size) (Item (Some r.0)) r.1, get_elem-drop l.now.released j l.now.items ∙ r.2))
+      (r.0, row_from-at size l.now.released slots j pos (omega arith) (omega arith) ∙ at_home (m % size) (Item r.0) r.1, get_elem-drop l.now.released j l.now.items ∙ r.2))
       (λ j lo hi. let m : ℕ = l.now.released + j in
-      row_from-at size l.now.released slots j pos (omega arith) (omega arith) ∙ at_home (m % size) (Item None) (sh.vacant m (omega arith) (omega arith))) in
+      row_from-at size l.now.released slots j pos (omega arith) (omega arith) ∙ at_home (m % size) Vacant (sh.vacant m (omega arith) (omega arith))) in
       record {
         ended = record {
           legal = subst (IsLegalHistory size first_state) t.0 l.legal;
@@ -192,26 +191,21 @@ module _ {I D O : Type 0} (meaning : I → Meaning) (origin : D → O) (settled 
         };
         all = among v.known.stands seen (λ k. subst (λ (z : List Entry). (own k z ≡ []) ⊎ Has k v.known.stands) t.0 (t.3 k));
         word = sym f.2 ∙ l.word ∙ ap (λ (z : RingState). pack (ring_word size z) ∷ []) now_is;
-        drainer = post.0;
-        batch = post.1;
-        post = at_home size (Post post.0 post.1) post.2;
-        settled_is = post.3;
-        origin_is = post.4;
-        taken = subst (λ (z : RingState). stands_for post.0 (take z.released z.items)) now_is post.5;
-        batch_is = post.6;
-        room = post.7;
-        stalled = subst (λ (z : RingState). z.flag ≡ Stalled → full post.0) now_is post.8;
+        outlet = post.0;
+        post = at_home size (Post post.0) post.1;
+        settled_is = post.2;
+        origin_is = post.3;
+        taken = subst (λ (z : RingState). stands_for post.0.value.drainer (take z.released z.items)) now_is post.4;
+        batch_is = post.5;
+        room = post.6;
+        stalled = subst (λ (z : RingState). z.flag ≡ Stalled → full post.0.value.drainer) now_is post.7;
         left_are = subst (λ (z : RingState). map meaning (items_lying (row_from size z.released slots)) ≡ drop z.released z.items) now_is lie;
       }
 
 module _ {I D : Type 0} where
-  abbrev drainer_in : Place I D → D → D
-  drainer_in (Post d q) x = d
-  drainer_in _ x = x
-
-  abbrev batch_in : Place I D → VecDeque I Global → VecDeque I Global
-  batch_in (Post d q) x = q
-  batch_in _ x = x
+  abbrev outlet_in : Place I D → Box (Outlet I D) → Box (Outlet I D)
+  outlet_in (Post b) x = b
+  outlet_in _ x = x
 
   -- both sweeps together went over the whole row
   swept : (size c first : ℕ) (slots : List (Place I D)) (batch left1 left2 : List I) → first ≡ c % size → batch ≡ []
@@ -235,23 +229,23 @@ module _ {I D O : Type 0} (meaning : I → Meaning) (origin : D → O) (settled 
   word_ends n at = some-injective n (pack (ring_word size (state_after first_state history))) (sym at ∙ ap (λ (z : List ℕ). get_elem? z 0) e.word)
 
   -- what lies in the last slot
-  pub post_ends : (p : Place I D) → get_elem? slots size ≡ some p → p ≡ Post e.drainer e.batch
-  post_ends p at = some-injective p (Post e.drainer e.batch) (sym at ∙ e.post)
+  pub post_ends : (p : Place I D) → get_elem? slots size ≡ some p → p ≡ Post e.outlet
+  post_ends p at = some-injective p (Post e.outlet) (sym at ∙ e.post)
 
-  batch_ends : (d : D) (q : VecDeque I Global) → get_elem? slots size ≡ some (Post d q) → q ≡ e.batch
-  batch_ends d q at = ap (λ (z : Place I D). batch_in z q) (post_ends (Post d q) at)
+  outlet_ends : (b : Box (Outlet I D)) → get_elem? slots size ≡ some (Post b) → e.outlet ≡ b
+  outlet_ends b at = sym (ap (λ (z : Place I D). outlet_in z b) (post_ends (Post b) at))
 
-  pub batch_room : (d : D) (q : VecDeque I Global) → get_elem? slots size ≡ some (Post d q) → (length q.items ≡ 0) × (size ≤ deque_capacity q)
-  batch_room d q at = subst (λ (z : VecDeque I Global). (length z.items ≡ 0) × (size ≤ deque_capacity z)) (sym (batch_ends d q at)) (ap length e.batch_is, e.room.1)
+  pub batch_room : (b : Box (Outlet I D)) → get_elem? slots size ≡ some (Post b) → (length b.value.batch.items ≡ 0) × (size ≤ deque_capacity b.value.batch)
+  batch_room b at = subst (λ (z : Box (Outlet I D)). (length z.value.batch.items ≡ 0) × (size ≤ deque_capacity z.value.batch)) (outlet_ends b at) (ap length e.batch_is, e.room.1)
 
-  pub closes_with : (n : ℕ) (w : RingWord) (d : D) (q : VecDeque I Global) (left1 left2 : List I) → 0 < size → size ≤ 65536 → get_elem? words 0 ≡ some n → pack w ≡ n → IsWithin size w → get_elem? slots size ≡ some (Post d q)
-      → left1 ≡ q.items ++ items_lying (take (size - w.cidx) (drop w.cidx slots)) → left2 ≡ left1 ++ items_lying (take (w.cidx - 0) (drop 0 slots)) → IsClosed meaning size history w left2 × IsHandedBack origin settled full stands_for o history d
-  closes_with n w d q left1 left2 pos small at packs within there one two =
+  pub closes_with : (n : ℕ) (w : RingWord) (b : Box (Outlet I D)) (left1 left2 : List I) → 0 < size → size ≤ 65536 → get_elem? words 0 ≡ some n → pack w ≡ n → IsWithin size w → get_elem? slots size ≡ some (Post b)
+      → left1 ≡ b.value.batch.items ++ items_lying (take (size - w.cidx) (drop w.cidx slots)) → left2 ≡ left1 ++ items_lying (take (w.cidx - 0) (drop 0 slots)) → IsClosed meaning size history w left2 × IsHandedBack origin settled full stands_for o history b.value.drainer
+  closes_with n w b left1 left2 pos small at packs within there one two =
       let st : RingState = state_after first_state history in
       let is : ring_word size st ≡ w = word_is size st w pos small within (sym (word_ends n at) ∙ sym packs) in
-      let d_is : e.drainer ≡ d = sym (ap (λ (z : Place I D). drainer_in z d) (post_ends (Post d q) there)) in
-      let none_ : q.items ≡ [] = ap (λ (z : VecDeque I Global). z.items) (batch_ends d q there) ∙ e.batch_is in
-      let row = swept size st.released w.cidx slots q.items left1 left2 (ap (λ (z : RingWord). z.cidx) (sym is)) none_ one two in (
+      let is_b : e.outlet ≡ b = outlet_ends b there in let d_is : e.outlet.value.drainer ≡ b.value.drainer = ap (λ (z : Box (Outlet I D)). z.value.drainer) is_b in
+      let none_ : b.value.batch.items ≡ [] = ap (λ (z : Box (Outlet I D)). z.value.batch.items) (sym is_b) ∙ e.batch_is in
+      let row = swept size st.released w.cidx slots b.value.batch.items left1 left2 (ap (λ (z : RingWord). z.cidx) (sym is)) none_ one two in (
         record {
           ended = e.ended;
           word = sym is;

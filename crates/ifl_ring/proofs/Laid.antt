@@ -1,6 +1,5 @@
 -- Items that are given home, and found there.
 use Rattle.std.proofs.Common.{◌≡◌, ◌≢◌, ℕ, zero, suc, ◌+◌, ◌-◌, ◌%◌, ◌<◌, ◌≤◌, List, [], ◌∷◌, length, map, set, take, drop, sym, refl, ap, ◌∙◌, subst, arith, length-set}
-use Rattle.std.specs.Prelude.{Some}
 use mathlib.Core.Option.{some, none}
 use mathlib.Core.Option as maybe
 use mathlib.Core.Logic.{dite}
@@ -21,33 +20,33 @@ module _ {I D : Type 0} (size : ℕ) where
 
   pub gave_valid : (a : ℕ) (ys : List I) (c : List (ℕ × Place I D)) (hs : List (maybe.Option (Place I D))) → Valid hs (laid size a ys c) (give_all (length ys))
   gave_valid a [] c hs = tt
-  gave_valid a (y ∷ ys) c hs = (tt, gave_valid (a + 1) ys c (set hs (a % size) (some (Item (Some y)))))
+  gave_valid a (y ∷ ys) c hs = (tt, gave_valid (a + 1) ys c (set hs (a % size) (some (Item y))))
 
   pub gave_long : (a : ℕ) (ys : List I) (c : List (ℕ × Place I D)) (hs : List (maybe.Option (Place I D))) → length (homes_after hs (laid size a ys c) (give_all (length ys))) ≡ length hs
   gave_long a [] c hs = refl
-  gave_long a (y ∷ ys) c hs = gave_long (a + 1) ys c (set hs (a % size) (some (Item (Some y)))) ∙ length-set hs (a % size) (some (Item (Some y)))
+  gave_long a (y ∷ ys) c hs = gave_long (a + 1) ys c (set hs (a % size) (some (Item y))) ∙ length-set hs (a % size) (some (Item y))
 
   pub gave_else : (a i : ℕ) (ys : List I) (c : List (ℕ × Place I D)) (hs : List (maybe.Option (Place I D))) → ((j : ℕ) → a ≤ j → j < a + length ys → i ≢ j % size)
       → get_elem? (homes_after hs (laid size a ys c) (give_all (length ys))) i ≡ get_elem? hs i
   gave_else a i [] c hs away = refl
-  gave_else a i (y ∷ ys) c hs away = gave_else (a + 1) i ys c (set hs (a % size) (some (Item (Some y)))) (λ j l h. away j (omega arith) (omega arith)) ∙ set_else hs (a % size) i (some (Item (Some y))) (away a (omega arith) (omega arith))
+  gave_else a i (y ∷ ys) c hs away = gave_else (a + 1) i ys c (set hs (a % size) (some (Item y))) (λ j l h. away j (omega arith) (omega arith)) ∙ set_else hs (a % size) i (some (Item y)) (away a (omega arith) (omega arith))
 
   pub gave_here : (a j : ℕ) (ys : List I) (c : List (ℕ × Place I D)) (hs : List (maybe.Option (Place I D))) → a ≤ j → j < a + length ys → length ys ≤ size → j % size < length hs
-      → (y : I) × (get_elem? ys (j - a) ≡ some y) × (get_elem? (homes_after hs (laid size a ys c) (give_all (length ys))) (j % size) ≡ some (some (Item (Some y))))
+      → (y : I) × (get_elem? ys (j - a) ≡ some y) × (get_elem? (homes_after hs (laid size a ys c) (give_all (length ys))) (j % size) ≡ some (some (Item y)))
   gave_here a j [] c hs l h small near = absurd (omega arith)
-  gave_here a j (y ∷ ys) c hs l h small near = let hs' : List (maybe.Option (Place I D)) = set hs (a % size) (some (Item (Some y))) in dite (ℕ_discrete j a)
+  gave_here a j (y ∷ ys) c hs l h small near = let hs' : List (maybe.Option (Place I D)) = set hs (a % size) (some (Item y)) in dite (ℕ_discrete j a)
       (λ is. (
         y,
         ap (get_elem? (y ∷ ys)) (let z : j - a ≡ 0 = omega arith in z),
         gave_else (a + 1) (j % size) ys c hs' (λ i x z. apart size a j i (omega arith) (omega arith) (omega arith) (omega arith) (λ e. omega arith))
-            ∙ (ap (λ (k : ℕ). get_elem? hs' (k % size)) is ∙ set_here hs (a % size) (some (Item (Some y))) (subst (λ (k : ℕ). k % size < length hs) is near)),
+            ∙ (ap (λ (k : ℕ). get_elem? hs' (k % size)) is ∙ set_here hs (a % size) (some (Item y)) (subst (λ (k : ℕ). k % size < length hs) is near)),
       ))
-      (λ ne. let t = gave_here (a + 1) j ys c hs' (omega arith) (omega arith) (omega arith) (subst (λ (k : ℕ). j % size < k) (sym (length-set hs (a % size) (some (Item (Some y))))) near) in
+      (λ ne. let t = gave_here (a + 1) j ys c hs' (omega arith) (omega arith) (omega arith) (subst (λ (k : ℕ). j % size < k) (sym (length-set hs (a % size) (some (Item y)))) near) in
       (t.0, ap (get_elem? (y ∷ ys)) (let z : j - a ≡ suc (j - (a + 1)) = omega arith in z) ∙ t.1, t.2))
 
   -- the items that lie at home
   pub collect : (meaning : I → Meaning) (items : List Meaning) (hs : List (maybe.Option (Place I D))) (a n : ℕ) (c : List (ℕ × Place I D))
-      → ((m : ℕ) → a ≤ m → m < a + n → (x : I) × (get_elem? hs (m % size) ≡ some (some (Item (Some x)))) × (get_elem? items m ≡ some (meaning x)))
+      → ((m : ℕ) → a ≤ m → m < a + n → (x : I) × (get_elem? hs (m % size) ≡ some (some (Item x))) × (get_elem? items m ≡ some (meaning x)))
       → (ys : List I) × (length ys ≡ n) × (out_all (value hs size) size a n c ≡ laid size a ys c) × (map meaning ys ≡ take n (drop a items))
   collect meaning items hs a zero c at = ([], refl, refl, refl)
   collect meaning items hs a (suc n) c at = let x = at a (omega arith) (omega arith) in let t = collect meaning items hs (a + 1) n c (λ m l h. at m (omega arith) (omega arith)) in (

@@ -1,15 +1,17 @@
 -- A round of the drain: its start, a batch, and the way back into the slots.
 use Rattle.std.proofs.Common.{◌≡◌, ℕ, zero, suc, ◌+◌, ◌-◌, ◌%◌, ◌≤◌, List, [], ◌∷◌, ◌++◌, length, map, take, drop, sym, refl, ap, ◌∙◌, subst, arith, append-nil, append_assoc, length-append, length-drop}
-use Rattle.std.specs.Prelude.{Some, None}
+use Rattle.std.specs.Prelude.{Some}
 use Rattle.std.proofs.Math.Nat.{mod-add-mod}
 use Rattle.std.proofs.lemmas.List.{take-append-le}
 use Rattle.atomic_table.specs.Table.{Me, rest, turned}
 use Rattle.std.specs.declared.alloc.Global.{Global}
+use Rattle.std.specs.Global.{Box}
 use Rattle.std.specs.declared.collections.VecDeque.{VecDeque}
 use Rattle.ifl_ringcore.specs.declared.history.Meaning.{Meaning}
 use Rattle.ifl_ring.specs.declared.view.View.{View}
 use Rattle.ifl_ring.specs.declared.place.Place.{Place}
-use Rattle.ifl_ring.specs.declared.place.Place.TheVariants.{Item, Post, Away}
+use Rattle.ifl_ring.specs.declared.place.Outlet.{Outlet}
+use Rattle.ifl_ring.specs.declared.place.Place.TheVariants.{Item, Vacant, Post, Away}
 use Rattle.ifl_ringcore.specs.State.{role_of, first_state}
 use Rattle.ifl_ringcore.specs.History.{state_after}
 use Rattle.ifl_ring.specs.Law.{Has, HasRoom}
@@ -40,21 +42,13 @@ module _ {A : Type 0} where
   same_rest x y xs ys e = cc
 
 module _ {I D : Type 0} where
-  abbrev post_of : D → Place I D → D
-  post_of d (Post e q) = e
-  post_of d _ = d
+  abbrev outlet_of : Box (Outlet I D) → Place I D → Box (Outlet I D)
+  outlet_of b (Post c) = c
+  outlet_of b _ = b
 
-  abbrev post_in : D → List (ℕ × Place I D) → D
-  post_in d [] = d
-  post_in d (x ∷ xs) = post_of d x.1
-
-  abbrev batch_of : VecDeque I Global → Place I D → VecDeque I Global
-  batch_of q (Post e r) = r
-  batch_of q _ = q
-
-  abbrev batch_in : VecDeque I Global → List (ℕ × Place I D) → VecDeque I Global
-  batch_in q [] = q
-  batch_in q (x ∷ xs) = batch_of q x.1
+  abbrev outlet_in : Box (Outlet I D) → List (ℕ × Place I D) → Box (Outlet I D)
+  outlet_in b [] = b
+  outlet_in b (x ∷ xs) = outlet_of b x.1
 
   pub back_none : (size a : ℕ) (c : List (ℕ × Place I D)) (all : List I) (at : ℕ) (out : List (ℕ × Place I D)) → at ≡ a % size → out ≡ out_all nothing size a (length all) c → IsBack size a c all all at out
   back_none size a c all at out here is = record {
@@ -65,29 +59,29 @@ module _ {I D : Type 0} where
     is = is ∙ (λ i. out_all nothing size ((let e : a ≡ a + 0 = omega arith in e) i) (length all) ((let e : c ≡ c ++ [] = simp append-nil in e) i));
   }
 
-  pub back_front : (size a : ℕ) (c : List (ℕ × Place I D)) (all left : List I) (at : ℕ) (out : List (ℕ × Place I D)) (x : I) (more : List I) → IsBack size a c all left at out → left ≡ x ∷ more → out ≡ (at, Item None) ∷ rest out
+  pub back_front : (size a : ℕ) (c : List (ℕ × Place I D)) (all left : List I) (at : ℕ) (out : List (ℕ × Place I D)) (x : I) (more : List I) → IsBack size a c all left at out → left ≡ x ∷ more → out ≡ (at, Vacant) ∷ rest out
   back_front size a c all left at out x more b e =
-      let is : out ≡ ((a + b.k) % size, Item None) ∷ out_all nothing size (a + b.k + 1) (length more) (c ++ laid size a (take b.k all) []) = b.is ∙ ap (λ (z : List I). out_all nothing size (a + b.k) (length z) (c ++ laid size a (take b.k all) [])) e in
-      is ∙ (λ i. (sym b.here i, Item None) ∷ rest (sym is i))
+      let is : out ≡ ((a + b.k) % size, Vacant) ∷ out_all nothing size (a + b.k + 1) (length more) (c ++ laid size a (take b.k all) []) = b.is ∙ ap (λ (z : List I). out_all nothing size (a + b.k) (length z) (c ++ laid size a (take b.k all) [])) e in
+      is ∙ (λ i. (sym b.here i, Vacant) ∷ rest (sym is i))
 
-  pub back_one : (size a : ℕ) (c : List (ℕ × Place I D)) (all left more : List I) (at at' : ℕ) (out out' : List (ℕ × Place I D)) (x : I) → IsBack size a c all left at out → left ≡ x ∷ more → out' ≡ rest out ++ (at, Item (Some x)) ∷ [] → at' ≡ advanced size at 1 → IsBack size a c all more at' out'
+  pub back_one : (size a : ℕ) (c : List (ℕ × Place I D)) (all left more : List I) (at at' : ℕ) (out out' : List (ℕ × Place I D)) (x : I) → IsBack size a c all left at out → left ≡ x ∷ more → out' ≡ rest out ++ (at, Item x) ∷ [] → at' ≡ advanced size at 1 → IsBack size a c all more at' out'
   back_one size a c all left more at at' out out' x b e next step =
       let some_left : length left ≡ suc (length more) = ap length e in let lies : length left ≡ length all - b.k = ap length b.rest ∙ length-drop b.k all in
       let n = nth b.k all (let f = b.few in omega arith) in
       let both : x ∷ more ≡ n.0 ∷ drop (suc b.k) all = sym e ∙ b.rest ∙ n.1 in
       let x_is : x ≡ n.0 = same_head x n.0 more (drop (suc b.k) all) both in let more_is : more ≡ drop (suc b.k) all = same_rest x n.0 more (drop (suc b.k) all) both in
       let old : List (ℕ × Place I D) = laid size a (take b.k all) [] in
-      let is : out ≡ ((a + b.k) % size, Item None) ∷ out_all nothing size (a + b.k + 1) (length more) (c ++ old) = b.is ∙ ap (λ (z : List I). out_all nothing size (a + b.k) (length z) (c ++ old)) e in
-      let new : laid size a (take (suc b.k) all) [] ≡ old ++ (at, Item (Some x)) ∷ [] =
+      let is : out ≡ ((a + b.k) % size, Vacant) ∷ out_all nothing size (a + b.k + 1) (length more) (c ++ old) = b.is ∙ ap (λ (z : List I). out_all nothing size (a + b.k) (length z) (c ++ old)) e in
+      let new : laid size a (take (suc b.k) all) [] ≡ old ++ (at, Item x) ∷ [] =
       ap (λ (z : List I). laid size a z []) n.2 ∙ laid_cut size a (take b.k all) (n.0 ∷ []) []
-      ∙ (λ i. laid size a (take b.k all) (((ap (λ (z : ℕ). (a + z) % size) (length_take_le b.k all b.few) ∙ sym b.here) i, Item (Some (sym x_is i))) ∷ []))
-      ∙ sym (laid_join size a (take b.k all) [] ((at, Item (Some x)) ∷ [])) in record {
+      ∙ (λ i. laid size a (take b.k all) (((ap (λ (z : ℕ). (a + z) % size) (length_take_le b.k all b.few) ∙ sym b.here) i, Item (sym x_is i)) ∷ []))
+      ∙ sym (laid_join size a (take b.k all) [] ((at, Item x) ∷ [])) in record {
         k = suc b.k;
         few = let f = b.few in omega arith;
         rest = more_is;
         here = step ∙ ap (λ (z : ℕ). (z + 1) % size) b.here ∙ mod-add-mod (a + b.k) size 1 ∙ ap (λ (z : ℕ). z % size) (let f : a + b.k + 1 ≡ a + suc b.k = omega arith in f);
-        is = next ∙ ap (λ (z : List (ℕ × Place I D)). rest z ++ (at, Item (Some x)) ∷ []) is ∙ out_append nothing size (a + b.k + 1) (length more) (c ++ old) ((at, Item (Some x)) ∷ [])
-            ∙ (λ i. out_all nothing size ((let f : a + b.k + 1 ≡ a + suc b.k = omega arith in f) i) (length more) ((append_assoc c old ((at, Item (Some x)) ∷ []) ∙ ap (λ (z : List (ℕ × Place I D)). c ++ z) (sym new)) i));
+        is = next ∙ ap (λ (z : List (ℕ × Place I D)). rest z ++ (at, Item x) ∷ []) is ∙ out_append nothing size (a + b.k + 1) (length more) (c ++ old) ((at, Item x) ∷ [])
+            ∙ (λ i. out_all nothing size ((let f : a + b.k + 1 ≡ a + suc b.k = omega arith in f) i) (length more) ((append_assoc c old ((at, Item x) ∷ []) ∙ ap (λ (z : List (ℕ × Place I D)). c ++ z) (sym new)) i));
       }
 
   pub back_all : (size a : ℕ) (c : List (ℕ × Place I D)) (all left : List I) (at : ℕ) (out : List (ℕ × Place I D)) → IsBack size a c all left at out → left ≡ [] → out ≡ c ++ laid size a all []
@@ -131,12 +125,13 @@ module _ {I D : Type 0} where
 
 module _ {I D O : Type 0} (meaning : I → Meaning) (origin : D → O) (settled : D → Type 0) (stands_for : D → List Meaning → Type 0) where
   pub post_first : (size left at : ℕ) (m : Me (Place I D) (View O)) → Drives meaning origin settled stands_for size left at m → IsPostFirst size m.1
-  post_first size left at m v = (v.drainer, v.batch, v.lies ∙ (λ i. (size, Post v.drainer v.batch) ∷ rest (sym v.lies i)))
+  post_first size left at m v = (v.outlet, v.lies ∙ (λ i. (size, Post v.outlet) ∷ rest (sym v.lies i)))
 
-  pub begun : (size left at : ℕ) (d : D) (q : VecDeque I Global) (m m' : Me (Place I D) (View O)) → m.1 ≡ (size, Post d q) ∷ rest m.1 → m' ≡ (m.0, turned ((size, Away) ∷ rest m.1))
-      → (v : Drives meaning origin settled stands_for size left at m) → (c : Consuming meaning origin settled stands_for size 0 left at d q m') × (c.consumer ≡ v.consumer) × (q.items ≡ [])
-  begun size left at d q m m' first next v =
-      let d_is : v.drainer ≡ d = ap (post_in d) (sym v.lies ∙ first) in let q_is : v.batch ≡ q = ap (batch_in q) (sym v.lies ∙ first) in
+  pub begun : (size left at : ℕ) (b : Box (Outlet I D)) (m m' : Me (Place I D) (View O)) → m.1 ≡ (size, Post b) ∷ rest m.1 → m' ≡ (m.0, turned ((size, Away) ∷ rest m.1))
+      → (v : Drives meaning origin settled stands_for size left at m) → (c : Consuming meaning origin settled stands_for size 0 left at b.value.drainer b.value.batch m') × (c.consumer ≡ v.consumer) × (b.value.batch.items ≡ [])
+  begun size left at b m m' first next v =
+      let b_is : v.outlet ≡ b = ap (outlet_in b) (sym v.lies ∙ first) in let q : VecDeque I Global = b.value.batch in
+      let d_is : v.outlet.value.drainer ≡ b.value.drainer = ap (λ (z : Box (Outlet I D)). z.value.drainer) b_is in let q_is : v.outlet.value.batch ≡ q = ap (λ (z : Box (Outlet I D)). z.value.batch) b_is in
       let none : q.items ≡ [] = ap (λ (z : VecDeque I Global). z.items) (sym q_is) ∙ v.batch_is in let zero_ : length q.items ≡ 0 = ap length none in
       let at0 : v.consumer.done ≡ v.consumer.done + 0 + length q.items = omega arith in let at1 : v.consumer.done ≡ v.consumer.done + 0 = omega arith in
       let out : m'.1 ≡ laid size v.consumer.done v.items ((size, Away) ∷ []) = ap (λ (z : Me (Place I D) (View O)). z.1) next ∙ ap (λ (z : List (ℕ × Place I D)). rest z ++ (size, Away) ∷ []) v.lies ∙ laid_join size v.consumer.done v.items [] ((size, Away) ∷ []) in
@@ -209,14 +204,13 @@ module _ {I D O : Type 0} (meaning : I → Meaning) (origin : D → O) (settled 
         refl,
       )
 
-  pub parked : (full : D → Type 0) (size n left at : ℕ) (d : D) (q q' : VecDeque I Global) (m m' : Me (Place I D) (View O)) (c : Consuming meaning origin settled stands_for size n left at d q m) → m'.0 ≡ m.0
-      → m'.1 ≡ out_all nothing size c.consumer.done n (laid size (c.consumer.done + n) (q.items ++ c.items) ((size, Post d q') ∷ [])) → q'.items ≡ [] → HasRoom size q'
-      → (p : Parked meaning origin settled full stands_for size n m') × (p.consumer ≡ c.consumer) × (p.drainer ≡ d)
-  parked full size n left at d q q' m m' c view lies none room = let a = c.all in let l = length-append q.items c.items in let cnt = c.count in (
+  pub parked : (full : D → Type 0) (size n left at : ℕ) (d : D) (q : VecDeque I Global) (b : Box (Outlet I D)) (m m' : Me (Place I D) (View O)) (c : Consuming meaning origin settled stands_for size n left at d q m) → m'.0 ≡ m.0
+      → m'.1 ≡ out_all nothing size c.consumer.done n (laid size (c.consumer.done + n) (q.items ++ c.items) ((size, Post b) ∷ [])) → b.value.drainer ≡ d → b.value.batch.items ≡ [] → HasRoom size b.value.batch
+      → (p : Parked meaning origin settled full stands_for size n m') × (p.consumer ≡ c.consumer) × (p.outlet.value.drainer ≡ d)
+  parked full size n left at d q b m m' c view lies same none room = let a = c.all in let l = length-append q.items c.items in let cnt = c.count in (
     record {
       consumer = c.consumer;
-      drainer = d;
-      batch = q';
+      outlet = b;
       items = q.items ++ c.items;
       named = subst (λ (z : View O). Has z.known.number z.known.stands) (sym view) c.named;
       still = ap (λ (z : View O). z.told) view ∙ c.still;
@@ -225,14 +219,14 @@ module _ {I D O : Type 0} (meaning : I → Meaning) (origin : D → O) (settled 
       all = omega arith;
       long = subst (λ (z : View O). c.consumer.known ≤ length (state_after first_state z.known.seen).items) (sym view) c.long;
       meant = c.meant ∙ ap (λ (z : View O). drop (c.consumer.done + n) (take c.consumer.known (state_after first_state z.known.seen).items)) (sym view);
-      settled_is = c.settled_is;
-      origin_is = ap (λ (z : View O). z.origin) view ∙ c.origin_is;
-      stands = subst (λ (z : View O). stands_for d (take (c.consumer.done + n) (state_after first_state z.known.seen).items)) (sym view) c.stands;
+      settled_is = subst settled (sym same) c.settled_is;
+      origin_is = ap (λ (z : View O). z.origin) view ∙ c.origin_is ∙ ap (λ (z : D). Some (origin z)) (sym same);
+      stands = subst (λ (z : D × View O). stands_for z.0 (take (c.consumer.done + n) (state_after first_state z.1.known.seen).items)) (λ i. (sym same i, sym view i)) c.stands;
       batch_is = none;
       room = room;
     },
     refl,
-    refl,
+    same,
   )
 
 pub gathered_long : {I D : Type 0} (size a : ℕ) (ys : List I) (c : List (ℕ × Place I D)) (before now : List I) (at left : ℕ) (out : List (ℕ × Place I D)) → Gathered size a ys c before now at left out → length now + left ≡ length before + length ys

@@ -1,9 +1,7 @@
 -- The ring at the start.
 use Rattle.std.proofs.Common.{◌≡◌, ℕ, zero, suc, ◌+◌, ◌%◌, ◌<◌, ◌≤◌, List, [], ◌∷◌, ◌++◌, length, map, sym, refl, ap, ◌∙◌, subst, inl, arith, length-append, mod-lt, mod-eq_of_lt, replicate}
 use Rattle.std.proofs.lemmas.List.{length-replicate}
-use Rattle.std.specs.Prelude.{None}
-use Rattle.std.specs.declared.alloc.Global.{Global}
-use Rattle.std.specs.declared.collections.VecDeque.{VecDeque}
+use Rattle.std.specs.Global.{Box}
 use mathlib.Core.Option.{some, none, some-injective, some-ne-none}
 use mathlib.Core.Option as maybe
 use lib.ListN.{get_elem?}
@@ -12,7 +10,8 @@ use Rattle.atomic_table.proofs.Lists.{at_map, at_last}
 use Rattle.ifl_ringcore.specs.declared.history.Meaning.{Meaning}
 use Rattle.ifl_ring.specs.declared.view.View.{View}
 use Rattle.ifl_ring.specs.declared.place.Place.{Place}
-use Rattle.ifl_ring.specs.declared.place.Place.TheVariants.{Item, Post}
+use Rattle.ifl_ring.specs.declared.place.Outlet.{Outlet}
+use Rattle.ifl_ring.specs.declared.place.Place.TheVariants.{Vacant, Post}
 use Rattle.ifl_ring.specs.declared.place.Key.{Key}
 use Rattle.ifl_ringcore.specs.State.{first_state, ring_word}
 use Rattle.ifl_ringcore.specs.Invariant.{RingInvariant}
@@ -39,11 +38,11 @@ one_view w F f zero x e = subst (F 0) (some-injective w x e) f
 one_view w F f (suc j) x e = absurd (some-ne-none x (sym e))
 
 module _ {I D O : Type 0} (meaning : I → Meaning) (origin : D → O) (settled full : D → Type 0) (stands_for : D → List Meaning → Type 0) where
-  pub opens : (key : Key O) (d : D) (q : VecDeque I Global) → 4 ≤ key.size → q.items ≡ [] → HasRoom key.size q → settled d → stands_for d [] → origin d ≡ key.origin
-      → Lawful meaning origin settled full stands_for key (opening (0 ∷ []) (replicate key.size (Item None) ++ Post d q ∷ []) (first_view key.origin))
-  opens key d q big empty room set_ stands made =
-      let nothing_ : Place I D = Item None in let size : ℕ = key.size in let xs : List (Place I D) = replicate size (Item None) ++ Post d q ∷ [] in let hs : List (maybe.Option (Place I D)) = map some xs in
-      let long : length xs ≡ size + 1 = length-append (replicate size (Item None)) (Post d q ∷ []) ∙ ap (λ (z : ℕ). z + 1) (length-replicate size nothing_) in
+  pub opens : (key : Key O) (b : Box (Outlet I D)) → 4 ≤ key.size → b.value.batch.items ≡ [] → HasRoom key.size b.value.batch → settled b.value.drainer → stands_for b.value.drainer [] → origin b.value.drainer ≡ key.origin
+      → Lawful meaning origin settled full stands_for key (opening (0 ∷ []) (replicate key.size Vacant ++ Post b ∷ []) (first_view key.origin))
+  opens key b big empty room set_ stands made =
+      let nothing_ : Place I D = Vacant in let size : ℕ = key.size in let xs : List (Place I D) = replicate size Vacant ++ Post b ∷ [] in let hs : List (maybe.Option (Place I D)) = map some xs in
+      let long : length xs ≡ size + 1 = length-append (replicate size Vacant) (Post b ∷ []) ∙ ap (λ (z : ℕ). z + 1) (length-replicate size nothing_) in
       let z : 0 % size ≡ 0 = mod-eq_of_lt (omega arith) in
       let good : RingInvariant size first_state = record { released = omega arith; within = omega arith; covered = refl; once = tt; idle = λ e. refl; waits = λ e. refl; tended = λ e. cc; counted = refl } in
       let me : Sits key.origin [] first_state (λ k. k) 0 (first_view key.origin) = record {
@@ -72,8 +71,8 @@ module _ {I D O : Type 0} (meaning : I → Meaning) (origin : D → O) (settled 
           taken = λ m a b. absurd (omega arith);
           ready = λ m a b. absurd (omega arith);
           held = λ m a b. absurd (omega arith);
-          vacant = λ m a b. at_map some xs (m % size) (Item None) (at_replicate size (m % size) (Item None) (Post d q ∷ []) (mod-lt m (omega arith)));
-          posted = (d, q, at_map some xs size (Post d q) (at_last (replicate size (Item None)) (Post d q) size (length-replicate size nothing_)), set_, made, stands, empty, room, λ e. absurd cc);
+          vacant = λ m lo hi. at_map some xs (m % size) Vacant (at_replicate size (m % size) Vacant (Post b ∷ []) (mod-lt m (omega arith)));
+          posted = (b, at_map some xs size (Post b) (at_last (replicate size Vacant) (Post b) size (length-replicate size nothing_)), set_, made, stands, empty, room, λ e. absurd cc);
         };
         each = one_view (first_view key.origin) (Sits key.origin [] first_state (λ k. k)) me;
         fresh = λ k out. (refl, refl, refl);
@@ -84,7 +83,7 @@ module _ {I D O : Type 0} (meaning : I → Meaning) (origin : D → O) (settled 
 module _ {I D O : Type 0} (meaning : I → Meaning) (origin : D → O) (settled full : D → Type 0) (stands_for : D → List Meaning → Type 0) where
   pub opens_with : (key : Key O) (d : D) (xs : List (Place I D)) → 4 ≤ key.size → IsOpening key.size d xs → settled d → stands_for d [] → origin d ≡ key.origin
       → Lawful meaning origin settled full stands_for key (opening (0 ∷ []) xs (first_view key.origin))
-  opens_with key d xs big is set_ stands made = subst (λ (z : List (Place I D)). Lawful meaning origin settled full stands_for key (opening (0 ∷ []) z (first_view key.origin))) (sym is.1) (opens meaning origin settled full stands_for key d is.0 big is.2 (is.3, is.4) set_ stands made)
+  opens_with key d xs big is set_ stands made = subst (λ (z : List (Place I D)). Lawful meaning origin settled full stands_for key (opening (0 ∷ []) z (first_view key.origin))) (sym is.1) (opens meaning origin settled full stands_for key is.0 big is.3 (is.4, is.5) (subst settled (sym is.2) set_) (subst (λ (z : D). stands_for z []) (sym is.2) stands) (ap origin is.2 ∙ made))
 
 pub replicate_snoc : {A : Type 0} (n : ℕ) (a : A) → replicate n a ++ a ∷ [] ≡ replicate (n + 1) a
 replicate_snoc zero a = refl

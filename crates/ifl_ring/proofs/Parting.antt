@@ -17,6 +17,7 @@ use Rattle.ifl_ringcore.specs.declared.history.Entry.{Entry}
 use Rattle.ifl_ring.specs.declared.view.View.{View}
 use Rattle.ifl_base.specs.declared.word.RingWord.{RingWord}
 use Rattle.ifl_ring.specs.declared.place.Place.{Place}
+use Rattle.ifl_ring.specs.declared.place.Outlet.{Outlet}
 use Rattle.ifl_ring.specs.declared.place.Key.{Key}
 use Rattle.ifl_ringcore.specs.State.{RingState, Consumer, Role, role_of, free, first_state, ring_word}
 use Rattle.ifl_ringcore.specs.Invariant.{Tends, reach, reach_of}
@@ -32,8 +33,7 @@ use Rattle.ifl_ringcore.proofs.Histories.{state_after-append}
 use Rattle.ifl_ring.proofs.Seats.{part_of}
 use Rattle.ifl_ring.proofs.Steps.{steps, size_is, made_now, Goes, word_of, look_at}
 use Rattle.ifl_ring.proofs.Reserving.{word_is}
-use Rattle.std.specs.declared.alloc.Global.{Global}
-use Rattle.std.specs.declared.collections.VecDeque.{VecDeque}
+use Rattle.std.specs.Global.{Box}
 use Rattle.std.proofs.Common.{length-drop}
 use Rattle.atomic_table.specs.Table.{chain, takes}
 use Rattle.ifl_ring.specs.declared.place.Place.TheVariants.{Item, Post, Told}
@@ -125,16 +125,16 @@ may_part size n j Abdicated st d w t seat (one, most, over, ne, open') = let a =
   ),
 )
 
-module _ {I D : Type 0} (size c n : ℕ) (ys : List I) (d : D) (q : VecDeque I Global) where
+module _ {I D : Type 0} (size c n : ℕ) (ys : List I) (b : Box (Outlet I D)) where
   -- the slots of a consumer that is about to give all of them back
   abbrev pub packed : List (ℕ × Place I D)
-  packed = out_all nothing size c n (laid size (c + n) ys ((size, Post d q) ∷ []))
+  packed = out_all nothing size c n (laid size (c + n) ys ((size, Post b) ∷ []))
 
   abbrev pub all_back : Act (Place I D)
   all_back = chain (give_all n) (chain (give_all (length ys)) gives)
 
   abbrev C0 : List (ℕ × Place I D)
-  C0 = (size, Post d q) ∷ []
+  C0 = (size, Post b) ∷ []
 
   abbrev C1 : List (ℕ × Place I D)
   C1 = laid size (c + n) ys C0
@@ -145,7 +145,7 @@ module _ {I D : Type 0} (size c n : ℕ) (ys : List I) (d : D) (q : VecDeque I G
   pub all_valid : (hs : List (maybe.Option (Place I D))) → Valid hs packed all_back
   all_valid hs = (back_valid nothing size c n C1 hs, (subst (λ (z : List (ℕ × Place I D)). Valid (homes_after hs packed (give_all n)) z (give_all (length ys))) (sym (back_carried nothing size c n C1)) (gave_valid size (c + n) ys C0 (homes_after hs packed (give_all n))), tt))
 
-  pub all_home : (hs : List (maybe.Option (Place I D))) → homes_after hs packed all_back ≡ set (homes_after (homes_after hs packed (give_all n)) C1 (give_all (length ys))) size (some (Post d q))
+  pub all_home : (hs : List (maybe.Option (Place I D))) → homes_after hs packed all_back ≡ set (homes_after (homes_after hs packed (give_all n)) C1 (give_all (length ys))) size (some (Post b))
   all_home hs = let h1 : List (maybe.Option (Place I D)) = homes_after hs packed (give_all n) in
       ap (λ (z : List (ℕ × Place I D)). put_back (homes_after h1 z (give_all (length ys))) (carried_after z (give_all (length ys)))) (back_carried nothing size c n C1)
       ∙ ap (put_back (homes_after h1 C1 (give_all (length ys)))) (gave_carried size (c + n) ys C0)
@@ -165,12 +165,12 @@ module _ {I D O : Type 0} (meaning : I → Meaning) (origin : D → O) (settled 
     pub stands : Stands key.size n st p.consumer w
     pub seat : p.consumer.seat ≡ me.0.known.number
     pub role : role_of me.0.known.number st ≡ (None, Some p.consumer)
-    pub lies : me.1 ≡ packed key.size st.released n p.items p.drainer p.batch
+    pub lies : me.1 ≡ packed key.size st.released n p.items p.outlet
     pub all : st.released + n + length p.items ≡ reach st
     pub below : reach st ≤ st.published
     pub meant : (i : ℕ) (y : I) → get_elem? p.items i ≡ some y → get_elem? st.items (st.released + n + i) ≡ some (meaning y)
-    pub from : origin p.drainer ≡ key.origin
-    pub done : stands_for p.drainer (take (st.released + n) st.items)
+    pub from : origin p.outlet.value.drainer ≡ key.origin
+    pub done : stands_for p.outlet.value.drainer (take (st.released + n) st.items)
 
   here : (key : Key O) (s : State (Place I D) (View O)) (l : Law key s) (id n : ℕ) (me : Me (Place I D) (View O)) (p : Park key.size n me) (w : RingWord) → get_elem? s.views id ≡ some me.0 → ring_word key.size l.now ≡ w → Here key n me p l.now w
   here key s l id n me p w at same = let now : RingState = l.now in let v : View O = me.0 in let j : ℕ = v.known.number in let dr : Consumer = p.consumer in let size : ℕ = key.size in let g = l.good in
@@ -187,16 +187,16 @@ module _ {I D O : Type 0} (meaning : I → Meaning) (origin : D → O) (settled 
         stands = record { same = same; consumer = mine.0; done = c_is; busy = dg.0; low = omega arith; high = dg.2; open_ = pr; near = g.within };
         seat = mine.1;
         role = role';
-        lies = p.lies ∙ ap (λ (z : ℕ). packed size z n p.items p.drainer p.batch) c_is;
+        lies = p.lies ∙ ap (λ (z : ℕ). packed size z n p.items p.outlet) c_is;
         all = omega arith;
         below = omega arith;
         meant = λ i y e. ap (get_elem? now.items) (let f : now.released + n + i ≡ dr.done + n + i = omega arith in f)
             ∙ at_part (dr.done + n) dr.known i now.items (meaning y) (ap (λ (z : List Meaning). get_elem? (drop (dr.done + n) z) i) known_items ∙ (ap (λ (z : List Meaning). get_elem? z i) (sym p.meant) ∙ at_map meaning p.items i y e));
         from = some_same (sym p.origin_is ∙ sits.born (part_of key.origin l.log l.now l.keeper id v sits p.named));
-        done = subst (stands_for p.drainer) (sym (ap (λ (z : ℕ). take (z + n) now.items) (sym c_is) ∙ old_items (dr.done + n) (omega arith))) p.stands;
+        done = subst (stands_for p.outlet.value.drainer) (sym (ap (λ (z : ℕ). take (z + n) now.items) (sym c_is) ∙ old_items (dr.done + n) (omega arith))) p.stands;
       }
 
-  pub leaves : (key : Key O) (slots id : ℕ) (me : Me (Place I D) (View O)) (old new n : ℕ) (f : Flag) (p : Park key.size n me) (w : RingWord) → f ≢ Busy → MayPart key.size f n p.consumer w → (f ≡ Stalled → full p.drainer)
+  pub leaves : (key : Key O) (slots id : ℕ) (me : Me (Place I D) (View O)) (old new n : ℕ) (f : Flag) (p : Park key.size n me) (w : RingWord) → f ≢ Busy → MayPart key.size f n p.consumer w → (f ≡ Stalled → full p.outlet.value.drainer)
       → key.size ≤ 65536 → IsWithin key.size w → old ≡ pack w → new ≡ pack record w { cidx = advanced key.size w.cidx n; flag = f }
       → Allows (Law key) slots id me 0 (λ x. either (eqb x old) new x) (left (step slots 0 old new (some (Parting n f))) me)
   leaves key slots id me old new n f p w ne mayp filled small inside was more s l wide at _ =
@@ -214,16 +214,16 @@ module _ {I D O : Type 0} (meaning : I → Meaning) (origin : D → O) (settled 
       let end' : state_after first_state log' ≡ record now { released = now.released + n; flag = f; consumer = None } = state_after-append first_state l.log e ∙ ap (λ (z : RingState). effect z j (parting f n)) l.is ∙ next_is in
       let got : role_of j (state_after first_state log') ≡ free = ap (role_of j) end' ∙ (λ i. ((h.role i).0, None)) in
       let slots_is = size_is meaning origin settled full stands_for key s l slots wide in
-      let P : List (ℕ × Place I D) = packed size now.released n p.items p.drainer p.batch in let act : Act (Place I D) = all_back size now.released n p.items p.drainer p.batch in
-      let sh = shelf_back meaning origin settled full stands_for size key.origin now n f p.drainer p.batch p.items s.homes ((size, Post p.drainer p.batch) ∷ []) l.some_size g h.all h.below l.shelf h.meant p.settled_is h.from h.done p.batch_is p.room filled in
-      let homes_is = all_home size now.released n p.items p.drainer p.batch s.homes in
+      let P : List (ℕ × Place I D) = packed size now.released n p.items p.outlet in let act : Act (Place I D) = all_back size now.released n p.items p.outlet in
+      let sh = shelf_back meaning origin settled full stands_for size key.origin now n f p.outlet p.items s.homes ((size, Post p.outlet) ∷ []) l.some_size g h.all h.below l.shelf h.meant p.settled_is h.from h.done p.batch_is p.room filled in
+      let homes_is = all_home size now.released n p.items p.outlet s.homes in
       let law' = steps meaning origin settled full stands_for key s l id v e (homes_after s.homes P act) new at p.named refl is may next (subst (λ (z : RingState × List (maybe.Option (Place I D))). Sh size key.origin z.0 z.1) (λ i. (sym next_is i, sym homes_is i)) sh) in
       let tale : Leaves size f n v.known x w'.known = record { made = mn.0; role = got } in (
         w',
         act,
-        subst (λ (z : List (ℕ × Place I D)). Valid s.homes z act) (sym h.lies) (all_valid size now.released n p.items p.drainer p.batch s.homes),
+        subst (λ (z : List (ℕ × Place I D)). Valid s.homes z act) (sym h.lies) (all_valid size now.released n p.items p.outlet s.homes),
         subst (λ (z : List (ℕ × Place I D)). Law key (stepped s 0 new id z w' act)) (sym h.lies) law',
-        ((λ _. ((refl, refl), subst (λ (z : ℕ). Leaves z f n v.known x w'.known) slots_is tale, ap (λ (z : List (ℕ × Place I D)). carried_after z act) h.lies ∙ all_gone size now.released n p.items p.drainer p.batch)), λ miss. absurd (miss hit)),
+        ((λ _. ((refl, refl), subst (λ (z : ℕ). Leaves z f n v.known x w'.known) slots_is tale, ap (λ (z : List (ℕ × Place I D)). carried_after z act) h.lies ∙ all_gone size now.released n p.items p.outlet)), λ miss. absurd (miss hit)),
       ))
       (λ miss. let t = look_at meaning origin settled full stands_for key s l slots id me st p.still p.named wide at refl in (t.0, t.1, t.2, t.3, ((λ hit. absurd (miss hit)), λ _. t.4)))
 
@@ -247,11 +247,11 @@ module _ {I D O : Type 0} (meaning : I → Meaning) (origin : D → O) (settled 
       let mn = made_now meaning origin settled full stands_for key s l id v e at p.still p.named is may in
       let end' : state_after first_state log' ≡ now' = state_after-append first_state l.log e ∙ ap (λ (z : RingState). effect z j (Advance n)) l.is in
       let slots_is = size_is meaning origin settled full stands_for key s l slots wide in
-      let P : List (ℕ × Place I D) = packed size now.released n p.items p.drainer p.batch in let back : Act (Place I D) = all_back size now.released n p.items p.drainer p.batch in
+      let P : List (ℕ × Place I D) = packed size now.released n p.items p.outlet in let back : Act (Place I D) = all_back size now.released n p.items p.outlet in
       let mid : RingState = record now { released = now.released + n; flag = Idle; consumer = None } in let C : List (ℕ × Place I D) = carried_after P back in
       let hs1 : List (maybe.Option (Place I D)) = homes_after s.homes P back in
-      let sh1 = subst (Sh size key.origin mid) (sym (all_home size now.released n p.items p.drainer p.batch s.homes))
-      (shelf_back meaning origin settled full stands_for size key.origin now n Idle p.drainer p.batch p.items s.homes ((size, Post p.drainer p.batch) ∷ []) l.some_size g h.all h.below l.shelf h.meant p.settled_is h.from h.done p.batch_is p.room (λ z. absurd cc)) in
+      let sh1 = subst (Sh size key.origin mid) (sym (all_home size now.released n p.items p.outlet s.homes))
+      (shelf_back meaning origin settled full stands_for size key.origin now n Idle p.outlet p.items s.homes ((size, Post p.outlet) ∷ []) l.some_size g h.all h.below l.shelf h.meant p.settled_is h.from h.done p.batch_is p.room (λ z. absurd cc)) in
       let hall = h.all in let hbelow = h.below in let near = hst.near in
       let k : ℕ = now.published - (now.released + n) in let all : now.released + n + k ≡ now.published = omega arith in
       let f : ℕ → Place I D = value hs1 size in
@@ -259,19 +259,19 @@ module _ {I D O : Type 0} (meaning : I → Meaning) (origin : D → O) (settled 
       let new_drain : Consumer = record dr { known = now.published; total = dr.total + n; done = dr.done + n } in
       let sh3 = other_drain size key.origin record mid { flag = Busy } (elected j now.published dr.budget dr.from (now.released + n)) new_drain (set (homes_after hs1 C (take_all f size (now.released + n) k)) size none) refl sh2 in
       let state_is : now' ≡ record mid { flag = Busy; consumer = Some new_drain } = (λ i. record now { released = now.released + n; flag = hst.busy i; consumer = went_on n now.published (hst.consumer i) }) in
-      let act : Act (Place I D) = chain back (chain (take_all f size (now.released + n) k) (takes size (Post sh1.posted.0 sh1.posted.1))) in
-      let ready' : (m : ℕ) → now.released + n ≤ m → m < now.released + n + k → (y : I) × (get_elem? hs1 (m % size) ≡ some (some (Item (Some y)))) × (get_elem? now.items m ≡ some (meaning y)) = λ m lo hi. sh1.ready m lo (omega arith) in
+      let act : Act (Place I D) = chain back (chain (take_all f size (now.released + n) k) (takes size (Post sh1.posted.0))) in
+      let ready' : (m : ℕ) → now.released + n ≤ m → m < now.released + n + k → (y : I) × (get_elem? hs1 (m % size) ≡ some (some (Item y))) × (get_elem? now.items m ≡ some (meaning y)) = λ m lo hi. sh1.ready m lo (omega arith) in
       let got = collect size meaning now.items hs1 (now.released + n) k C ready' in
-      let gone = all_gone size now.released n p.items p.drainer p.batch in
+      let gone = all_gone size now.released n p.items p.outlet in
       let valid : Valid s.homes P act = (
-        all_valid size now.released n p.items p.drainer p.batch s.homes,
+        all_valid size now.released n p.items p.outlet s.homes,
         (
           out_valid f size (now.released + n) k hs1 C (omega arith) (λ m lo hi. let y = ready' m lo hi in y.1 ∙ sym (ap (λ (z : Place I D). some (some z)) (ap lying y.1))),
-          out_else f size (now.released + n) k size hs1 C (λ i lo hi q. let nearer = mod-lt i l.some_size in omega arith) ∙ sh1.posted.2,
+          out_else f size (now.released + n) k size hs1 C (λ i lo hi q. let nearer = mod-lt i l.some_size in omega arith) ∙ sh1.posted.1,
         ),
       ) in
-      let carried : carried_after P act ≡ (size, Post sh1.posted.0 sh1.posted.1) ∷ laid size (now.released + n) got.0 [] =
-      ap (λ (z : List (ℕ × Place I D)). (size, Post sh1.posted.0 sh1.posted.1) ∷ z) (out_carried f size (now.released + n) k C ∙ got.2 ∙ ap (laid size (now.released + n) got.0) gone) in
+      let carried : carried_after P act ≡ (size, Post sh1.posted.0) ∷ laid size (now.released + n) got.0 [] =
+      ap (λ (z : List (ℕ × Place I D)). (size, Post sh1.posted.0) ∷ z) (out_carried f size (now.released + n) k C ∙ got.2 ∙ ap (laid size (now.released + n) got.0) gone) in
       let meant' : map meaning got.0 ≡ drop (now.released + n) now.items = got.3 ∙ take-whole (drop (now.released + n) now.items) k (length-drop (now.released + n) now.items ∙ ap (λ (z : ℕ). z - (now.released + n)) g.counted) in
       let law' = steps meaning origin settled full stands_for key s l id v e (set (homes_after hs1 C (take_all f size (now.released + n) k)) size none) new at p.named refl is may next (subst (λ (z : RingState). Sh size key.origin z (set (homes_after hs1 C (take_all f size (now.released + n) k)) size none)) (sym state_is) sh3) in
       let drain_is : drain_in v.known ≡ Some dr = ap (λ (z : Role). z.1) p.role in
@@ -280,16 +280,15 @@ module _ {I D O : Type 0} (meaning : I → Meaning) (origin : D → O) (settled 
       let tale : Advances size n v.known x w'.known = record { made = mn.0; role = got' } in
       let sits = l.each id v at in
       let handed : Handed meaning origin settled full stands_for size now'.released now'.items w'.origin (carried_after P act) = record {
-        drainer = sh1.posted.0;
-        batch = sh1.posted.1;
+        outlet = sh1.posted.0;
         taken = got.0;
         has = carried;
         meant = meant';
-        settled_is = sh1.posted.3;
-        origin_is = sits.born (part_of key.origin l.log l.now l.keeper id v sits p.named) ∙ ap (λ (z : O). Some z) (sym sh1.posted.4);
-        stands = sh1.posted.5;
-        batch_is = sh1.posted.6;
-        room = sh1.posted.7;
+        settled_is = sh1.posted.2;
+        origin_is = sits.born (part_of key.origin l.log l.now l.keeper id v sits p.named) ∙ ap (λ (z : O). Some z) (sym sh1.posted.3);
+        stands = sh1.posted.4;
+        batch_is = sh1.posted.5;
+        room = sh1.posted.6;
       } in (
         w',
         act,
@@ -309,13 +308,12 @@ module _ {I D O : Type 0} (meaning : I → Meaning) (origin : D → O) (settled 
   abbrev pub park_sized : (a b n : ℕ) (me : Me (Place I D) (View O)) → a ≡ b → (p : Park a n me) → Park b n me
   park_sized a b n me e p = record {
     consumer = p.consumer;
-    drainer = p.drainer;
-    batch = p.batch;
+    outlet = p.outlet;
     items = p.items;
     named = p.named;
     still = p.still;
     role = p.role;
-    lies = p.lies ∙ ap (λ (z : ℕ). packed z p.consumer.done n p.items p.drainer p.batch) e;
+    lies = p.lies ∙ ap (λ (z : ℕ). packed z p.consumer.done n p.items p.outlet) e;
     all = p.all;
     long = p.long;
     meant = p.meant;
@@ -323,7 +321,7 @@ module _ {I D O : Type 0} (meaning : I → Meaning) (origin : D → O) (settled 
     origin_is = p.origin_is;
     stands = p.stands;
     batch_is = p.batch_is;
-    room = subst (λ (z : ℕ). HasRoom z p.batch) e p.room;
+    room = subst (λ (z : ℕ). HasRoom z p.outlet.value.batch) e p.room;
   }
 
 pub may_sized : (a b : ℕ) (f : Flag) (n : ℕ) (d : Consumer) (w : RingWord) → a ≡ b → MayPart a f n d w → MayPart b f n d w

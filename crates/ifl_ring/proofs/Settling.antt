@@ -87,7 +87,7 @@ sees size n j st d g role = let mine = same_drain j st.consumer d (ap (λ (z : R
 module _ {I D O : Type 0} (meaning : I → Meaning) (origin : D → O) (settled full : D → Type 0) (stands_for : D → List Meaning → Type 0) where
   -- a look leaves a consumer as it is
   pub parked_still : (size n x : ℕ) (m m' : Me (Place I D) (View O)) → Looks size m.0.known x m'.0.known → m'.1 ≡ m.1 → Same m.0 m'.0 → (p : Parked meaning origin settled full stands_for size n m)
-      → (p' : Parked meaning origin settled full stands_for size n m') × (p'.consumer ≡ p.consumer) × (p'.drainer ≡ p.drainer) × (p'.items ≡ p.items)
+      → (p' : Parked meaning origin settled full stands_for size n m') × (p'.consumer ≡ p.consumer) × (p'.outlet.value.drainer ≡ p.outlet.value.drainer) × (p'.items ≡ p.items)
   parked_still size n x m m' t out same p =
       let made = t.0 in let v : Known = m.0.known in let e : Entry = entry v.number x Look in let seen : List Entry = (v.seen ++ made.between) ++ e ∷ [] in
       let seen_is : m'.0.known.seen ≡ seen = ap (λ (z : Known). z.seen) made.is in
@@ -98,8 +98,7 @@ module _ {I D O : Type 0} (meaning : I → Meaning) (origin : D → O) (settled 
       let role' : role_of v.number (state_after first_state seen) ≡ (None, Some p.consumer) = ap (role_of v.number) (state_after-append first_state (v.seen ++ made.between) e) ∙ made.role ∙ p.role in let all' = p.all in (
         record {
           consumer = p.consumer;
-          drainer = p.drainer;
-          batch = p.batch;
+          outlet = p.outlet;
           items = p.items;
           named = subst (λ (z : Known). Has z.number z.stands) (sym made.is) p.named;
           still = same.0;
@@ -111,7 +110,7 @@ module _ {I D O : Type 0} (meaning : I → Meaning) (origin : D → O) (settled 
           meant = p.meant ∙ ap (drop (p.consumer.done + n)) (sym (old_items p.consumer.known (omega arith)));
           settled_is = p.settled_is;
           origin_is = same.1 ∙ p.origin_is;
-          stands = subst (stands_for p.drainer) (sym (old_items (p.consumer.done + n) (omega arith))) p.stands;
+          stands = subst (stands_for p.outlet.value.drainer) (sym (old_items (p.consumer.done + n) (omega arith))) p.stands;
           batch_is = p.batch_is;
           room = p.room;
         },
@@ -153,8 +152,7 @@ module _ {I D O : Type 0} (meaning : I → Meaning) (origin : D → O) (settled 
         left,
         record {
           consumer = dr;
-          drainer = h.drainer;
-          batch = h.batch;
+          outlet = h.outlet;
           items = h.taken;
           named = subst (λ (z : Known). Has z.number z.stands) (sym made.is) p.named;
           still = same.0;
@@ -162,13 +160,13 @@ module _ {I D O : Type 0} (meaning : I → Meaning) (origin : D → O) (settled 
           count = count;
           some = omega arith;
           here = at ∙ ap (λ (z : ℕ). z % size) (sym d_is);
-          lies = h.has ∙ ap (λ (z : ℕ). (size, Post h.drainer h.batch) ∷ laid size z h.taken []) (sym d_is);
+          lies = h.has ∙ ap (λ (z : ℕ). (size, Post h.outlet) ∷ laid size z h.taken []) (sym d_is);
           all = let f : p.consumer.done + n + left ≡ st.published = omega arith in f;
           long = let f : st.published ≤ length st.items = omega arith in f;
           meant = h.meant ∙ (λ i. drop (sym d_is i) (sym take_is i));
           settled_is = h.settled_is;
           origin_is = h.origin_is;
-          stands = subst (λ (z : ℕ). stands_for h.drainer (take z st.items)) (sym d_is) h.stands;
+          stands = subst (λ (z : ℕ). stands_for h.outlet.value.drainer (take z st.items)) (sym d_is) h.stands;
           batch_is = h.batch_is;
           room = h.room;
         },
@@ -266,8 +264,7 @@ module _ {I D O : Type 0} (meaning : I → Meaning) (origin : D → O) (settled 
         left,
         record {
           consumer = dr;
-          drainer = h.drainer;
-          batch = h.batch;
+          outlet = h.outlet;
           items = h.taken;
           named = has;
           still = still;

@@ -3,7 +3,6 @@ use Rattle.std.proofs.Common.{◌≡◌, ℕ, zero, suc, ◌+◌, ◌%◌, ◌<�
 use Rattle.ifl_ring.proofs.Gathering.{nth}
 use Rattle.ifl_ring.specs.declared.place.Place.{Place}
 use Rattle.ifl_ring.specs.declared.place.Place.TheVariants.{Item}
-use Rattle.std.specs.Prelude.{Some}
 use Rattle.ifl_ring.specs.Acts.{out_all, laid}
 use Rattle.atomic_table.specs.Table.{turned}
 
@@ -79,11 +78,11 @@ module _ {S : Type 0} (f : ℕ → S) (size : ℕ) where
 module _ {I D : Type 0} (size : ℕ) where
   pub laid_cut : (a : ℕ) (xs ys : List I) (c : List (ℕ × Place I D)) → laid size a (xs ++ ys) c ≡ laid size a xs (laid size (a + length xs) ys c)
   laid_cut a [] ys c = ap (λ (z : ℕ). laid size z ys c) (let e : a ≡ a + 0 = omega arith in e)
-  laid_cut a (x ∷ xs) ys c = ap (λ (z : List (ℕ × Place I D)). (a % size, Item (Some x)) ∷ z) (laid_cut (a + 1) xs ys c ∙ ap (λ (z : ℕ). laid size (a + 1) xs (laid size z ys c)) (let e : a + 1 + length xs ≡ a + suc (length xs) = omega arith in e))
+  laid_cut a (x ∷ xs) ys c = ap (λ (z : List (ℕ × Place I D)). (a % size, Item x) ∷ z) (laid_cut (a + 1) xs ys c ∙ ap (λ (z : ℕ). laid size (a + 1) xs (laid size z ys c)) (let e : a + 1 + length xs ≡ a + suc (length xs) = omega arith in e))
 
   pub laid_join : (a : ℕ) (ys : List I) (c d : List (ℕ × Place I D)) → laid size a ys c ++ d ≡ laid size a ys (c ++ d)
   laid_join a [] c d = refl
-  laid_join a (y ∷ ys) c d = ap (λ (z : List (ℕ × Place I D)). (a % size, Item (Some y)) ∷ z) (laid_join (a + 1) ys c d)
+  laid_join a (y ∷ ys) c d = ap (λ (z : List (ℕ × Place I D)). (a % size, Item y) ∷ z) (laid_join (a + 1) ys c d)
 
   pub laid_long : (a : ℕ) (ys : List I) (c : List (ℕ × Place I D)) → length (laid size a ys c) ≡ length ys + length c
   laid_long a [] c = omega arith

@@ -74,31 +74,30 @@ module _ {I D O : Type 0} (meaning : I → Meaning) (origin : D → O) (settled 
       let f : ℕ → Place I D = value s.homes size in let hs2 : List (maybe.Option (Place I D)) = homes_after s.homes me.1 (take_all f size now.released n) in
       let post = subst (λ (z : Option Consumer). Posted meaning origin settled full stands_for size now.flag key.origin (take now.released now.items) z (get_elem? s.homes size)) no_drain l.shelf.posted in
       let sh3 = shelf_hand meaning origin settled full stands_for size key.origin now j b n now.flag s.homes me.1 l.some_size all pr wi l.shelf (omega arith) in
-      let act : Act (Place I D) = chain (take_all f size now.released n) (takes size (Post post.0 post.1)) in
-      let ready' : (m : ℕ) → now.released ≤ m → m < now.released + n → (y : I) × (get_elem? s.homes (m % size) ≡ some (some (Item (Some y)))) × (get_elem? now.items m ≡ some (meaning y)) = λ m lo hi. l.shelf.ready m (omega arith) (omega arith) in
+      let act : Act (Place I D) = chain (take_all f size now.released n) (takes size (Post post.0)) in
+      let ready' : (m : ℕ) → now.released ≤ m → m < now.released + n → (y : I) × (get_elem? s.homes (m % size) ≡ some (some (Item y))) × (get_elem? now.items m ≡ some (meaning y)) = λ m lo hi. l.shelf.ready m (omega arith) (omega arith) in
       let got = collect size meaning now.items s.homes now.released n me.1 ready' in
       let valid : Valid s.homes me.1 act = (
         out_valid f size now.released n s.homes me.1 (omega arith) (λ m lo hi. let y = ready' m lo hi in y.1 ∙ sym (ap (λ (z : Place I D). some (some z)) (ap lying y.1))),
-        out_else f size now.released n size s.homes me.1 (λ i lo hi q. let near = mod-lt i l.some_size in omega arith) ∙ post.2,
+        out_else f size now.released n size s.homes me.1 (λ i lo hi q. let near = mod-lt i l.some_size in omega arith) ∙ post.1,
       ) in
-      let carried : carried_after me.1 act ≡ (size, Post post.0 post.1) ∷ laid size now.released got.0 [] =
-      ap (λ (z : List (ℕ × Place I D)). (size, Post post.0 post.1) ∷ z) (out_carried f size now.released n me.1 ∙ got.2 ∙ ap (laid size now.released got.0) none_out) in
+      let carried : carried_after me.1 act ≡ (size, Post post.0) ∷ laid size now.released got.0 [] =
+      ap (λ (z : List (ℕ × Place I D)). (size, Post post.0) ∷ z) (out_carried f size now.released n me.1 ∙ got.2 ∙ ap (laid size now.released got.0) none_out) in
       let meant' : map meaning got.0 ≡ drop now.released now.items = got.3 ∙ take-whole (drop now.released now.items) n (length-drop now.released now.items ∙ ap (λ (z : ℕ). z - now.released) g.counted) in
       let law' = steps meaning origin settled full stands_for key s l id v e (set hs2 size none) new at rests.named refl is may next sh3 in
       let role' : role_of j (state_after first_state log') ≡ (None, Some (elected j now.published b now.flag now.released)) = ap (role_of j) end ∙ (λ i. (no_hold i, drains_me j (elected j now.published b now.flag now.released) refl i)) in
       let slots_is = size_is meaning origin settled full stands_for key s l slots wide in
       let taking : TakesOver size b v.known x w'.known = record { made = mn.0; role = role' ∙ (λ i. (None, Some (elected j (sym end i).published b (sym mn.1 i).flag (sym end i).released))) } in
       let handed : Handed meaning origin settled full stands_for size now'.released now'.items w'.origin (carried_after me.1 act) = record {
-        drainer = post.0;
-        batch = post.1;
+        outlet = post.0;
         taken = got.0;
         has = carried;
         meant = meant';
-        settled_is = post.3;
-        origin_is = sits.born (part_of key.origin l.log l.now l.keeper id v sits rests.named) ∙ ap (λ (z : O). Some z) (sym post.4);
-        stands = post.5;
-        batch_is = post.6;
-        room = post.7;
+        settled_is = post.2;
+        origin_is = sits.born (part_of key.origin l.log l.now l.keeper id v sits rests.named) ∙ ap (λ (z : O). Some z) (sym post.3);
+        stands = post.4;
+        batch_is = post.5;
+        room = post.6;
       } in (
         w',
         act,

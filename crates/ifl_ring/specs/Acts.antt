@@ -3,13 +3,12 @@ use Rattle.std.specs.Prelude.{◌≡◌, ℕ, zero, suc, ◌+◌, ◌%◌, List,
 use mathlib.Core.Option.{some, none}
 use mathlib.Core.Option as maybe
 use lib.ListN.{get_elem?}
-use Rattle.std.specs.Prelude.{Some, None}
-use Rattle.std.specs.declared.alloc.Global.{Global}
-use Rattle.std.specs.declared.collections.VecDeque.{VecDeque}
+use Rattle.std.specs.Global.{Box}
 use Rattle.std.specs.VecDeque.{deque_capacity}
 use Rattle.atomic_table.specs.Table.{rest, Act, keeps, takes, gives, chain}
 use Rattle.ifl_ring.specs.declared.place.Place.{Place}
-use Rattle.ifl_ring.specs.declared.place.Place.TheVariants.{Item, Post}
+use Rattle.ifl_ring.specs.declared.place.Outlet.{Outlet}
+use Rattle.ifl_ring.specs.declared.place.Place.TheVariants.{Item, Vacant, Post}
 
 module _ {S : Type 0} where
   -- the slots of the numbers from a on, n of them; f says what lies there. The first one is taken last, so that it is in front
@@ -30,10 +29,10 @@ module _ {I D : Type 0} where
   -- the items ys, in the slots of the numbers from a on
   abbrev pub laid : ℕ → ℕ → List I → List (ℕ × Place I D) → List (ℕ × Place I D)
   laid size a [] c = c
-  laid size a (y ∷ ys) c = (a % size, Item (Some y)) ∷ laid size (a + 1) ys c
+  laid size a (y ∷ ys) c = (a % size, Item y) ∷ laid size (a + 1) ys c
 
   abbrev pub item_in : Place I D → List I → List I
-  item_in (Item (Some y)) ys = y ∷ ys
+  item_in (Item y) ys = y ∷ ys
   item_in _ ys = ys
 
   abbrev pub items_in : List (ℕ × Place I D) → List I
@@ -43,16 +42,16 @@ module _ {I D : Type 0} where
   -- what lies at home in a slot
   abbrev pub lying : maybe.Option (maybe.Option (Place I D)) → Place I D
   lying (some (some y)) = y
-  lying _ = Item None
+  lying _ = Vacant
 
   abbrev pub value : List (maybe.Option (Place I D)) → ℕ → ℕ → Place I D
   value hs size m = lying (get_elem? hs (m % size))
 
   abbrev pub IsPostFirst : ℕ → List (ℕ × Place I D) → Type 0
-  IsPostFirst size out = (d : D) × (q : VecDeque I Global) × (out ≡ (size, Post d q) ∷ rest out)
+  IsPostFirst size out = (b : Box (Outlet I D)) × (out ≡ (size, Post b) ∷ rest out)
 
   abbrev pub IsItemFirst : ℕ → List (ℕ × Place I D) → Type 0
-  IsItemFirst at out = (x : I) × (out ≡ (at, Item (Some x)) ∷ rest out)
+  IsItemFirst at out = (x : I) × (out ≡ (at, Item x) ∷ rest out)
 
   -- the items ys are in front, from the slot at on
   pub record InFront (size at left : ℕ) (out : List (ℕ × Place I D)) : Type 0 where
@@ -70,8 +69,8 @@ module _ {I D : Type 0} where
     pub left_is : left + k ≡ length ys
     pub here : at ≡ (a + k) % size
     pub batch : after_it ≡ before ++ take k ys
-    pub is : out ≡ laid size (a + k) (drop k ys) (c ++ out_all (λ _. Item None) size a k [])
+    pub is : out ≡ laid size (a + k) (drop k ys) (c ++ out_all (λ _. Vacant) size a k [])
 
   -- the slots at the start
   abbrev pub IsOpening : ℕ → D → List (Place I D) → Type 0
-  IsOpening size d xs = (q : VecDeque I Global) × (xs ≡ replicate size (Item None) ++ Post d q ∷ []) × (q.items ≡ []) × (32 ≤ deque_capacity q) × (size ≤ deque_capacity q)
+  IsOpening size d xs = (b : Box (Outlet I D)) × (xs ≡ replicate size Vacant ++ Post b ∷ []) × (b.value.drainer ≡ d) × (b.value.batch.items ≡ []) × (32 ≤ deque_capacity b.value.batch) × (size ≤ deque_capacity b.value.batch)

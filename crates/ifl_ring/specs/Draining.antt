@@ -2,12 +2,14 @@
 use Rattle.std.specs.Prelude.{◌≡◌, ◌≢◌, ℕ, ◌+◌, ◌%◌, ◌<◌, ◌≤◌, ◌⊎◌, Bool, true, false, List, [], ◌∷◌, ◌++◌, length, map, take, drop, Some, None}
 use Rattle.atomic_table.specs.Table.{Me}
 use Rattle.std.specs.declared.alloc.Global.{Global}
+use Rattle.std.specs.Global.{Box}
 use Rattle.std.specs.declared.collections.VecDeque.{VecDeque}
 use Rattle.ifl_base.specs.declared.word.Flag.{Flag}
 use Rattle.ifl_base.specs.declared.word.Flag.TheVariants.{Idle, Busy, Stalled, Abdicated}
 use Rattle.ifl_ringcore.specs.declared.history.Meaning.{Meaning}
 use Rattle.ifl_ring.specs.declared.view.View.{View}
 use Rattle.ifl_ring.specs.declared.place.Place.{Place}
+use Rattle.ifl_ring.specs.declared.place.Outlet.{Outlet}
 use Rattle.ifl_ring.specs.declared.place.Place.TheVariants.{Post, Away}
 use Rattle.ifl_ringcore.specs.State.{Consumer, role_of, first_state}
 use Rattle.ifl_ringcore.specs.History.{state_after}
@@ -21,8 +23,7 @@ module _ {I D O : Type 0} where
   -- at the start of a round: the drainer and all items from c to the known tail are in the slots
   pub record Drives (meaning : I → Meaning) (origin : D → O) (settled : D → Type 0) (stands_for : D → List Meaning → Type 0) (size left at : ℕ) (m : Me (Place I D) (View O)) : Type 0 where
     pub consumer : Consumer
-    pub drainer : D
-    pub batch : VecDeque I Global
+    pub outlet : Box (Outlet I D)
     pub items : List I
     pub named : Has m.0.known.number m.0.known.stands
     pub still : m.0.told ≡ []
@@ -30,15 +31,15 @@ module _ {I D O : Type 0} where
     pub count : length items ≡ left
     pub some : 1 ≤ left
     pub here : at ≡ consumer.done % size
-    pub lies : m.1 ≡ (size, Post drainer batch) ∷ laid size consumer.done items []
+    pub lies : m.1 ≡ (size, Post outlet) ∷ laid size consumer.done items []
     pub all : consumer.done + left ≡ consumer.known
     pub long : consumer.known ≤ length (state_after first_state m.0.known.seen).items
     pub meant : map meaning items ≡ drop consumer.done (take consumer.known (state_after first_state m.0.known.seen).items)
-    pub settled_is : settled drainer
-    pub origin_is : m.0.origin ≡ Some (origin drainer)
-    pub stands : stands_for drainer (take consumer.done (state_after first_state m.0.known.seen).items)
-    pub batch_is : batch.items ≡ []
-    pub room : HasRoom size batch
+    pub settled_is : settled outlet.value.drainer
+    pub origin_is : m.0.origin ≡ Some (origin outlet.value.drainer)
+    pub stands : stands_for outlet.value.drainer (take consumer.done (state_after first_state m.0.known.seen).items)
+    pub batch_is : outlet.value.batch.items ≡ []
+    pub room : HasRoom size outlet.value.batch
 
   -- in a round: n items are consumed, those of the batch are out of their slots, and left further ones lie in front, from the slot at on
   pub record Consuming (meaning : I → Meaning) (origin : D → O) (settled : D → Type 0) (stands_for : D → List Meaning → Type 0) (size n left at : ℕ) (d : D) (q : VecDeque I Global) (m : Me (Place I D) (View O)) : Type 0 where

@@ -4,6 +4,7 @@ use mathlib.Core.Option.{some, none}
 use mathlib.Core.Option as maybe
 use lib.ListN.{get_elem?}
 use Rattle.std.specs.declared.alloc.Global.{Global}
+use Rattle.std.specs.Global.{Box}
 use Rattle.std.specs.declared.collections.VecDeque.{VecDeque}
 use Rattle.std.specs.VecDeque.{deque_capacity}
 use Rattle.ifl_base.specs.declared.word.Flag.{Flag}
@@ -15,7 +16,8 @@ use Rattle.ifl_ring.specs.declared.view.Past.{Past}
 use Rattle.ifl_ring.specs.declared.view.Known.{Known}
 use Rattle.ifl_ring.specs.declared.view.View.{View}
 use Rattle.ifl_ring.specs.declared.place.Place.{Place}
-use Rattle.ifl_ring.specs.declared.place.Place.TheVariants.{Item, Post}
+use Rattle.ifl_ring.specs.declared.place.Place.TheVariants.{Item, Vacant, Post}
+use Rattle.ifl_ring.specs.declared.place.Outlet.{Outlet}
 use Rattle.ifl_ring.specs.declared.place.Key.{Key}
 use Rattle.ifl_ring.specs.declared.place.Sheet.{Sheet}
 use Rattle.ifl_ringcore.specs.State.{RingState, Consumer, role_of, free, first_state, ring_word}
@@ -94,15 +96,15 @@ HasRoom size q = (32 ≤ deque_capacity q) × (size ≤ deque_capacity q)
 module _ {I D O : Type 0} (meaning : I → Meaning) (origin : D → O) (settled full : D → Type 0) (stands_for : D → List Meaning → Type 0) where
   -- the drainer is at home exactly where nobody drains
   abbrev pub Posted : ℕ → Flag → O → List Meaning → Option Consumer → maybe.Option (maybe.Option (Place I D)) → Type 0
-  Posted size f o done None h = (d : D) × (q : VecDeque I Global) × (h ≡ some (some (Post d q))) × settled d × (origin d ≡ o) × stands_for d done × (q.items ≡ []) × HasRoom size q × (f ≡ Stalled → full d)
+  Posted size f o done None h = (b : Box (Outlet I D)) × (h ≡ some (some (Post b))) × settled b.value.drainer × (origin b.value.drainer ≡ o) × stands_for b.value.drainer done × (b.value.batch.items ≡ []) × HasRoom size b.value.batch × (f ≡ Stalled → full b.value.drainer)
   Posted size f o done (Some x) h = h ≡ some none
 
   pub record Shelf (size : ℕ) (o : O) (st : RingState) (homes : List (maybe.Option (Place I D))) : Type 0 where
     pub wide : length homes ≡ size + 1
     pub taken : (m : ℕ) → st.released ≤ m → m < reach st → get_elem? homes (m % size) ≡ some none
-    pub ready : (m : ℕ) → reach st ≤ m → m < st.published → (x : I) × (get_elem? homes (m % size) ≡ some (some (Item (Some x)))) × (get_elem? st.items m ≡ some (meaning x))
+    pub ready : (m : ℕ) → reach st ≤ m → m < st.published → (x : I) × (get_elem? homes (m % size) ≡ some (some (Item x))) × (get_elem? st.items m ≡ some (meaning x))
     pub held : (m : ℕ) → st.published ≤ m → m < st.reserved → get_elem? homes (m % size) ≡ some none
-    pub vacant : (m : ℕ) → st.reserved ≤ m → m < st.released + size → get_elem? homes (m % size) ≡ some (some (Item None))
+    pub vacant : (m : ℕ) → st.reserved ≤ m → m < st.released + size → get_elem? homes (m % size) ≡ some (some Vacant)
     pub posted : Posted size st.flag o (take st.released st.items) st.consumer (get_elem? homes size)
 
   pub record Lawful (key : Key O) (s : State (Place I D) (View O)) : Type 0 where

@@ -7,13 +7,13 @@ use Rattle.ifl_base.specs.declared.word.Flag.{Flag}
 use Rattle.ifl_base.specs.declared.word.Flag.TheVariants.{Idle, Busy, Stalled, Abdicated}
 use Rattle.ifl_ringcore.specs.declared.history.Entry.{Entry}
 use Rattle.ifl_ringcore.specs.declared.history.Meaning.{Meaning}
-use Rattle.std.specs.declared.alloc.Global.{Global}
-use Rattle.std.specs.declared.collections.VecDeque.{VecDeque}
+use Rattle.std.specs.Global.{Box}
 use Rattle.ifl_ring.specs.declared.view.Known.{Known}
 use Rattle.ifl_ring.specs.declared.view.View.{View}
 use Rattle.ifl_base.specs.declared.word.RingWord.{RingWord}
 use Rattle.ifl_ring.specs.declared.place.Place.{Place}
-use Rattle.ifl_ring.specs.declared.place.Place.TheVariants.{Item, Post, Told, Parting}
+use Rattle.ifl_ring.specs.declared.place.Outlet.{Outlet}
+use Rattle.ifl_ring.specs.declared.place.Place.TheVariants.{Vacant, Post, Told, Parting}
 use mathlib.Core.Option.{some, none}
 use mathlib.Core.Option as maybe
 use Rattle.ifl_ring.specs.Acts.{out_all, laid, items_in}
@@ -74,7 +74,7 @@ module _ {I D : Type 0} where
   told (some _) = 0
 
   abbrev pub nothing : ℕ → Place I D
-  nothing _ = Item None
+  nothing _ = Vacant
 
 -- the seat published items behind others
 pub record Behinds (size : ℕ) (xs : List Meaning) (v : Known) (n : ℕ) (w : Known) : Type 0 where
@@ -106,16 +106,15 @@ module _ {I D O : Type 0} where
 
   -- the seat has the drainer, and the items from c to p
   pub record Handed (meaning : I → Meaning) (origin : D → O) (settled full : D → Type 0) (stands_for : D → List Meaning → Type 0) (size c : ℕ) (items : List Meaning) (o : Option O) (out : List (ℕ × Place I D)) : Type 0 where
-    pub drainer : D
-    pub batch : VecDeque I Global
+    pub outlet : Box (Outlet I D)
     pub taken : List I
-    pub has : out ≡ (size, Post drainer batch) ∷ laid size c taken []
+    pub has : out ≡ (size, Post outlet) ∷ laid size c taken []
     pub meant : map meaning taken ≡ drop c items
-    pub settled_is : settled drainer
-    pub origin_is : o ≡ Some (origin drainer)
-    pub stands : stands_for drainer (take c items)
-    pub batch_is : batch.items ≡ []
-    pub room : HasRoom size batch
+    pub settled_is : settled outlet.value.drainer
+    pub origin_is : o ≡ Some (origin outlet.value.drainer)
+    pub stands : stands_for outlet.value.drainer (take c items)
+    pub batch_is : outlet.value.batch.items ≡ []
+    pub room : HasRoom size outlet.value.batch
 
   abbrev pub drains : (I → Meaning) → (D → O) → (D → Type 0) → (D → Type 0) → (D → List Meaning → Type 0) → TableStep (Place I D) → Me (Place I D) (View O) → ℕ → Me (Place I D) (View O) → Type 0
   drains meaning origin settled full stands_for st m n m' =
@@ -205,21 +204,20 @@ module _ {I D O : Type 0} where
   -- a consumer that has consumed n items since it moved the visible cidx, with the drainer and all other items back in its slots
   pub record Parked (meaning : I → Meaning) (origin : D → O) (settled full : D → Type 0) (stands_for : D → List Meaning → Type 0) (size n : ℕ) (m : Me (Place I D) (View O)) : Type 0 where
     pub consumer : Consumer
-    pub drainer : D
-    pub batch : VecDeque I Global
+    pub outlet : Box (Outlet I D)
     pub items : List I
     pub named : Has m.0.known.number m.0.known.stands
     pub still : m.0.told ≡ []
     pub role : role_of m.0.known.number (state_after first_state m.0.known.seen) ≡ (None, Some consumer)
-    pub lies : m.1 ≡ out_all nothing size consumer.done n (laid size (consumer.done + n) items ((size, Post drainer batch) ∷ []))
+    pub lies : m.1 ≡ out_all nothing size consumer.done n (laid size (consumer.done + n) items ((size, Post outlet) ∷ []))
     pub all : consumer.done + n + length items ≡ consumer.known
     pub long : consumer.known ≤ length (state_after first_state m.0.known.seen).items
     pub meant : map meaning items ≡ drop (consumer.done + n) (take consumer.known (state_after first_state m.0.known.seen).items)
-    pub settled_is : settled drainer
-    pub origin_is : m.0.origin ≡ Some (origin drainer)
-    pub stands : stands_for drainer (take (consumer.done + n) (state_after first_state m.0.known.seen).items)
-    pub batch_is : batch.items ≡ []
-    pub room : HasRoom size batch
+    pub settled_is : settled outlet.value.drainer
+    pub origin_is : m.0.origin ≡ Some (origin outlet.value.drainer)
+    pub stands : stands_for outlet.value.drainer (take (consumer.done + n) (state_after first_state m.0.known.seen).items)
+    pub batch_is : outlet.value.batch.items ≡ []
+    pub room : HasRoom size outlet.value.batch
 
 -- when a consumer may set this flag in the word w, with n items given back
 abbrev pub MayPart : ℕ → Flag → ℕ → Consumer → RingWord → Type 0

@@ -11,7 +11,6 @@
 
 mod answers;
 mod bare;
-mod boxed;
 mod closed;
 mod counted;
 mod drainer;

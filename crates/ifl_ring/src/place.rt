@@ -3,14 +3,23 @@ use ifl_base::Flag;
 use std::collections::VecDeque;
 use std::snapshot::Snapshot;
 
-/// The last slot has the drainer with the room of its batch, the others an item or none.
+/// What lies in a slot, or what a step is told. The last slot has the drainer, or `Away` while a consumer has it; each
+/// other has an item or is vacant. The drainer lies in a box, so that not every slot has room for one.
 #[derive(Drop)]
 pub enum Place<I, D> {
-    Item(Option<I>),
-    Post(D, VecDeque<I>),
+    Item(I),
+    Vacant,
+    Post(Box<Outlet<I, D>>),
     Away,
     Told(u64),
     Parting(u64, Flag),
+}
+
+/// The drainer, and the batch in which it is offered items.
+#[derive(Drop)]
+pub struct Outlet<I, D> {
+    pub drainer: D,
+    pub batch: VecDeque<I>,
 }
 
 /// What the rule reads of it.

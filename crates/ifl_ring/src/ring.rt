@@ -34,7 +34,7 @@ use std::sync::Wait;
 /// It owns the items that are in it, and its drainer.
 #[derive(Drop)]
 pub struct Ring<D: Drainer> {
-    bare: BareRing<Box<D>>,
+    bare: BareRing<D>,
 }
 
 impl<D: Drainer> Model for Ring<D> {
@@ -42,7 +42,7 @@ impl<D: Drainer> Model for Ring<D> {
 
     ghost Value = { RingState D.Origin };
 
-    ghost view = { λ r. record { table = r.bare.table.shared.table_id; size = r.bare.size; origin = D.origin r.bare.table.shared.key.drainer.value.value } };
+    ghost view = { λ r. record { table = r.bare.table.shared.table_id; size = r.bare.size; origin = D.origin r.bare.table.shared.key.drainer.value } };
 }
 
 /// The leave to take part in a ring. A thread may hand it to another.
@@ -51,7 +51,7 @@ impl<D: Drainer> Model for Ring<D> {
 /// without a whole seat, so that the ring cannot be closed any more.
 #[derive(Drop)]
 pub struct Seat<D: Drainer> {
-    seat: BareSeat<Box<D>>,
+    seat: BareSeat<D>,
     part: u32,
     tally: Counters,
 }
@@ -102,17 +102,13 @@ impl<D: Drainer> Ring<D> {
         if size < 4 || size > 65536 {
             return Err((RingFault::BadSize(size), drainer));
         }
-        let drainer = match Box::new(alloc, drainer) {
-            Ok(drainer) => drainer,
-            Err(failed) => return Err((RingFault::Memory, failed.value)),
-        };
         let key = Sheet {
             size,
             drainer: Snapshot::of(&drainer),
         };
         let slots = match make_slots(alloc, size, drainer) {
             Ok(slots) => slots,
-            Err(drainer) => return Err((RingFault::Memory, Box::into_inner(drainer))),
+            Err(drainer) => return Err((RingFault::Memory, drainer)),
         };
         match Table::new(alloc, &[0], slots, &key) {
             Ok((table, seat)) => {
@@ -126,7 +122,7 @@ impl<D: Drainer> Ring<D> {
             }
             Err(refused) => {
                 let Refused { slots } = refused;
-                Err((RingFault::Memory, Box::into_inner(drainer_of(slots))))
+                Err((RingFault::Memory, drainer_of(slots)))
             }
         }
     }
@@ -249,6 +245,6 @@ impl<D: Drainer> Ring<D> {
             size,
             last,
         };
-        (closed, Box::into_inner(drainer))
+        (closed, drainer)
     }
 }

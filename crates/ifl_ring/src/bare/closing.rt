@@ -10,7 +10,7 @@ ghost use Rattle.ifl_ring.specs.Law.{Rests};
 
 use crate::bare::{BareRing, BareSeat, read};
 use crate::drainer::{Drainer, RingItem};
-use crate::place::Place;
+use crate::place::{Outlet, Place};
 use atomic_table::Closed;
 use ifl_base::{PART, RingWord};
 use std::alloc::Global;
@@ -23,7 +23,7 @@ fn keep_item<I: Drop, D: Drop>(place: Place<I, D>, left: &mut VecDeque<I>)
     ensures room { deque_capacity left.new ≡ deque_capacity left.old }
 {
     match place {
-        Place::Item(Some(item)) => left.push_back_reserved(item),
+        Place::Item(item) => left.push_back_reserved(item),
         _ => {}
     }
 }
@@ -63,9 +63,10 @@ impl<D: Drainer> BareRing<D> {
         let BareRing { table, size } = self;
         let mut closed = table.close_with(seat);
         let word = read(size, closed.word(0));
-        let Place::Post(drainer, batch) = closed.take(size as usize) else {
+        let Place::Post(outlet) = closed.take(size as usize) else {
             unreachable!()
         };
+        let Outlet { drainer, batch } = Box::into_inner(outlet);
         let mut left = batch;
         let first = word.cidx as usize;
         sweep(&mut closed, first, size as usize, &mut left);

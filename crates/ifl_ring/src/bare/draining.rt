@@ -9,7 +9,7 @@ ghost use Rattle.ifl_ring.specs.Law.{IsAtRest};
 
 use crate::bare::{BareRing, BareSeat};
 use crate::drainer::{Drainer, RingItem};
-use crate::place::Place;
+use crate::place::{Outlet, Place};
 use crate::word::is_busy;
 use ifl_base::{Flag, advance};
 use std::collections::VecDeque;
@@ -61,11 +61,11 @@ pub fn has_reached(total: u64, budget: u32) -> bool
 
 impl<D: Drainer> BareRing<D> {
     /// Takes the drainer out at the start of a round.
-    pub fn begin(&self, seat: &mut BareSeat<D>, at: u16, left: u32) -> (D, VecDeque<D::Item>)
+    pub fn begin(&self, seat: &mut BareSeat<D>, at: u16, left: u32) -> Box<Outlet<D::Item, D>>
         requires table { seat.old.table_id ≡ self.now.table.shared.table_id }
         requires drives { Drives D.Item.meaning D.origin D.settled D.stands_for self.now.size left at seat.old.me }
         ensures same { (seat.new.table_id ≡ seat.old.table_id) × (seat.new.id ≡ seat.old.id) × (seat.new.me.0 ≡ seat.old.me.0) }
-        ensures consuming { (v : Drives D.Item.meaning D.origin D.settled D.stands_for self.now.size left at seat.old.me) → (c : Consuming D.Item.meaning D.origin D.settled D.stands_for self.now.size 0 left at result.0 result.1 seat.new.me) × (c.consumer ≡ v.consumer) × (result.1.items ≡ []) }
+        ensures consuming { (v : Drives D.Item.meaning D.origin D.settled D.stands_for self.now.size left at seat.old.me) → (c : Consuming D.Item.meaning D.origin D.settled D.stands_for self.now.size 0 left at result.value.drainer result.value.batch seat.new.me) × (c.consumer ≡ v.consumer) × (result.value.batch.items ≡ []) }
     {
         let out = self.take_post(seat);
         seat.turn();
@@ -103,27 +103,26 @@ impl<D: Drainer> BareRing<D> {
     pub fn park(
         &self,
         seat: &mut BareSeat<D>,
-        drainer: D,
-        batch: VecDeque<D::Item>,
+        outlet: Box<Outlet<D::Item, D>>,
         first: u16,
         n: u32,
         at: u16,
         left: u32,
     )
         requires table { seat.old.table_id ≡ self.now.table.shared.table_id }
-        requires consuming { (c : Consuming D.Item.meaning D.origin D.settled D.stands_for self.now.size n left at drainer batch seat.old.me) × (first ≡ (c.consumer.done + n) % self.now.size) }
+        requires consuming { (c : Consuming D.Item.meaning D.origin D.settled D.stands_for self.now.size n left at outlet.value.drainer outlet.value.batch seat.old.me) × (first ≡ (c.consumer.done + n) % self.now.size) }
         requires range { (first < self.now.size) × (n < self.now.size) × (left < self.now.size) }
         ensures same { (seat.new.table_id ≡ seat.old.table_id) × (seat.new.id ≡ seat.old.id) × (seat.new.me.0 ≡ seat.old.me.0) }
-        ensures parked { (c : Consuming D.Item.meaning D.origin D.settled D.stands_for self.now.size n left at drainer batch seat.old.me) → first ≡ (c.consumer.done + n) % self.now.size → (p : Parked D.Item.meaning D.origin D.settled D.full D.stands_for self.now.size n seat.new.me) × (p.consumer ≡ c.consumer) × (p.drainer ≡ drainer) }
+        ensures parked { (c : Consuming D.Item.meaning D.origin D.settled D.stands_for self.now.size n left at outlet.value.drainer outlet.value.batch seat.old.me) → first ≡ (c.consumer.done + n) % self.now.size → (p : Parked D.Item.meaning D.origin D.settled D.full D.stands_for self.now.size n seat.new.me) × (p.consumer ≡ c.consumer) × (p.outlet.value.drainer ≡ outlet.value.drainer) }
     {
-        let mut batch = batch;
+        let mut outlet = outlet;
         self.turn_by(seat, left + 1 + n);
-        self.put_back(seat, &mut batch, first);
+        self.put_back(seat, &mut outlet.batch, first);
         self.turn_by(seat, left);
         drop(
             self.table
                 .shared
-                .exchange(seat, self.size as usize, Place::Post(drainer, batch)),
+                .exchange(seat, self.size as usize, Place::Post(outlet)),
         );
         seat.turn();
     }
@@ -224,20 +223,11 @@ impl<D: Drainer> BareRing<D> {
             → (n : ℕ) × (es : _) × IsRelease result.flag n es × Trails self.now.size seat.old.me.0.known es (drain_rise v.consumer.from result.flag (v.consumer.total + n)) seat.new.me.0.known × IsTotal result.total (v.consumer.total + n)
             × (result.flag ≡ Flag.Busy → (result.at < self.now.size) × (result.left < self.now.size) × ((x : Drives D.Item.meaning D.origin D.settled D.stands_for self.now.size result.left result.at seat.new.me) × (x.consumer.total ≡ v.consumer.total + n) × (x.consumer.budget ≡ budget) × (x.consumer.from ≡ v.consumer.from))) }
     {
-        let (drainer, batch) = self.begin(seat, at, left);
-        let mut drainer = drainer;
-        let mut batch = batch;
-        let round = self.consume(rt, seat, &mut drainer, &mut batch, at, left, before, budget);
+        let mut outlet = self.begin(seat, at, left);
+        let Outlet { drainer, batch } = &mut *outlet;
+        let round = self.consume(rt, seat, drainer, batch, at, left, before, budget);
         let first = advance(self.size, at, round.count);
-        self.park(
-            seat,
-            drainer,
-            batch,
-            first,
-            round.count,
-            round.at,
-            round.left,
-        );
+        self.park(seat, outlet, first, round.count, round.at, round.left);
         let over = has_reached(round.total, budget);
         let (flag, place, items) = self.settle(rt, seat, round.count, round.stalled, over);
         Done {

@@ -24,7 +24,7 @@ impl<D: Drainer> BareRing<D> {
         requires table { seat.old.table_id ≡ self.now.table.shared.table_id }
         requires word { IsWithin self.now.size w.now × (flag ≢ Flag.Busy) }
         requires count { n < self.now.size }
-        requires parked { (p : Parked D.Item.meaning D.origin D.settled D.full D.stands_for self.now.size n seat.old.me) × MayPart self.now.size flag n p.consumer w.now × (flag ≡ Flag.Stalled → D.full p.drainer) }
+        requires parked { (p : Parked D.Item.meaning D.origin D.settled D.full D.stands_for self.now.size n seat.old.me) × MayPart self.now.size flag n p.consumer w.now × (flag ≡ Flag.Stalled → D.full p.outlet.value.drainer) }
         ensures same { (seat.new.table_id ≡ seat.old.table_id) × (seat.new.id ≡ seat.old.id) }
         ensures ok { IfOk result (λ _. Leaves self.now.size flag n seat.old.me.0.known (pack w.now) seat.new.me.0.known × (seat.new.me.1 ≡ []) × Same seat.old.me.0 seat.new.me.0) }
         ensures err { IfErr result (λ x. Looks self.now.size seat.old.me.0.known x seat.new.me.0.known × (seat.new.me.1 ≡ seat.old.me.1) × Same seat.old.me.0 seat.new.me.0) }
@@ -74,7 +74,7 @@ impl<D: Drainer> BareRing<D> {
         requires table { seat.old.table_id ≡ self.now.table.shared.table_id }
         requires word { IsWithin self.now.size w.now × (w.now.flag ≡ Flag.Busy) }
         requires count { n < self.now.size }
-        requires parked { (p : Parked D.Item.meaning D.origin D.settled D.full D.stands_for self.now.size n seat.old.me) × MayPart self.now.size flag n p.consumer w.now × (flag ≡ Flag.Stalled → D.full p.drainer) }
+        requires parked { (p : Parked D.Item.meaning D.origin D.settled D.full D.stands_for self.now.size n seat.old.me) × MayPart self.now.size flag n p.consumer w.now × (flag ≡ Flag.Stalled → D.full p.outlet.value.drainer) }
         ensures same { (seat.new.table_id ≡ seat.old.table_id) × (seat.new.id ≡ seat.old.id) × Same seat.old.me.0 seat.new.me.0 }
         ensures left { result ≡ true → flag ≢ Flag.Busy → Leaves self.now.size flag n seat.old.me.0.known (pack w.now) seat.new.me.0.known × (seat.new.me.1 ≡ []) }
         ensures on { result ≡ true → flag ≡ Flag.Busy → Advances self.now.size n seat.old.me.0.known (pack w.now) seat.new.me.0.known × Handed D.Item.meaning D.origin D.settled D.full D.stands_for self.now.size (state_after first_state seat.new.me.0.known.seen).released (state_after first_state seat.new.me.0.known.seen).items seat.new.me.0.origin seat.new.me.1 }
@@ -104,7 +104,7 @@ impl<D: Drainer> BareRing<D> {
     ) -> (Flag, u16, u32)
         requires table { seat.old.table_id ≡ self.now.table.shared.table_id }
         requires lived { IsLived self.now.size seat.old.me.0.known }
-        requires parked { (p : Parked D.Item.meaning D.origin D.settled D.full D.stands_for self.now.size n seat.old.me) × EndsRound stalled (D.full p.drainer) n (length p.items) p.consumer × IsOver over n p.consumer }
+        requires parked { (p : Parked D.Item.meaning D.origin D.settled D.full D.stands_for self.now.size n seat.old.me) × EndsRound stalled (D.full p.outlet.value.drainer) n (length p.items) p.consumer × IsOver over n p.consumer }
         ensures same { (seat.new.table_id ≡ seat.old.table_id) × (seat.new.id ≡ seat.old.id) }
         ensures trail { (p : Parked D.Item.meaning D.origin D.settled D.full D.stands_for self.now.size n seat.old.me) → (es : _) × IsRelease result.0 n es × Trails self.now.size seat.old.me.0.known es (drain_rise p.consumer.from result.0 (p.consumer.total + n)) seat.new.me.0.known }
         ensures left { result.0 ≢ Flag.Busy → IsAtRest seat.new.me.0.known × (seat.new.me.0.told ≡ []) × (seat.new.me.1 ≡ []) }

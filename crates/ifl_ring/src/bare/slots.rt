@@ -7,7 +7,7 @@ ghost use Rattle.atomic_table.specs.Table.{rest};
 
 use crate::bare::{BareRing, BareSeat};
 use crate::drainer::Drainer;
-use crate::place::Place;
+use crate::place::{Outlet, Place};
 use ifl_base::{DRAIN_BATCH, advance};
 use std::alloc::Global;
 use std::collections::VecDeque;
@@ -39,10 +39,17 @@ pub fn make_slots<I: Drop, D: Drop>(
     let Ok(batch) = VecDeque::with_capacity(alloc, batch_room(size)) else {
         return Err(drainer);
     };
+    let outlet = match Box::new(alloc, Outlet { drainer, batch }) {
+        Ok(outlet) => outlet,
+        Err(failed) => {
+            let Outlet { drainer, batch: _ } = failed.value;
+            return Err(drainer);
+        }
+    };
     for _ in 0..size {
-        slots.push_reserved(Place::Item(None));
+        slots.push_reserved(Place::Vacant);
     }
-    slots.push_reserved(Place::Post(drainer, batch));
+    slots.push_reserved(Place::Post(outlet));
     Ok(slots)
 }
 
@@ -53,17 +60,20 @@ pub fn drainer_of<I: Drop, D: Drop>(slots: Vec<Place<I, D>>) -> D
 {
     let mut slots = slots;
     match slots.pop() {
-        Some(Place::Post(drainer, _)) => drainer,
+        Some(Place::Post(outlet)) => {
+            let Outlet { drainer, batch: _ } = Box::into_inner(outlet);
+            drainer
+        }
         _ => unreachable!(),
     }
 }
 
 impl<D: Drainer> BareRing<D> {
-    /// Takes the drainer and its batch out of the slot in front.
-    pub fn take_post(&self, seat: &mut BareSeat<D>) -> (D, VecDeque<D::Item>)
+    /// Takes the drainer with its batch out of the slot in front.
+    pub fn take_post(&self, seat: &mut BareSeat<D>) -> Box<Outlet<D::Item, D>>
         requires table { seat.old.table_id ≡ self.now.table.shared.table_id }
         requires slot { IsPostFirst self.now.size seat.old.me.1 }
-        ensures result { seat.old.me.1 ≡ (self.now.size, Place.Post result.0 result.1) ∷ rest seat.old.me.1 }
+        ensures result { seat.old.me.1 ≡ (self.now.size, Place.Post result) ∷ rest seat.old.me.1 }
         ensures same { (seat.new.table_id ≡ seat.old.table_id) × (seat.new.id ≡ seat.old.id) }
         ensures away { seat.new.me ≡ (seat.old.me.0, (self.now.size, Place.Away) ∷ rest seat.old.me.1) }
     {
@@ -72,7 +82,7 @@ impl<D: Drainer> BareRing<D> {
             .shared
             .exchange(seat, self.size as usize, Place::Away);
         match found {
-            Place::Post(drainer, batch) => (drainer, batch),
+            Place::Post(outlet) => outlet,
             _ => unreachable!(),
         }
     }
@@ -81,18 +91,15 @@ impl<D: Drainer> BareRing<D> {
     pub fn take_item(&self, seat: &mut BareSeat<D>, at: u16) -> D::Item
         requires table { seat.old.table_id ≡ self.now.table.shared.table_id }
         requires slot { IsItemFirst at seat.old.me.1 }
-        ensures item { seat.old.me.1 ≡ (at, Place.Item (Some result)) ∷ rest seat.old.me.1 }
+        ensures item { seat.old.me.1 ≡ (at, Place.Item result) ∷ rest seat.old.me.1 }
         ensures same { (seat.new.table_id ≡ seat.old.table_id) × (seat.new.id ≡ seat.old.id) }
-        ensures turned { seat.new.me ≡ (seat.old.me.0, rest seat.old.me.1 ++ (at, Place.Item None) ∷ []) }
+        ensures turned { seat.new.me ≡ (seat.old.me.0, rest seat.old.me.1 ++ (at, Place.Vacant) ∷ []) }
     {
-        let item = match seat.slot_mut(&self.table.shared, at as usize) {
-            Place::Item(item) => item.take(),
-            _ => unreachable!(),
-        };
+        let found = self.table.shared.exchange(seat, at as usize, Place::Vacant);
         seat.turn();
-        match item {
-            Some(item) => item,
-            None => unreachable!(),
+        match found {
+            Place::Item(item) => item,
+            _ => unreachable!(),
         }
     }
 
@@ -141,14 +148,11 @@ impl<D: Drainer> BareRing<D> {
     /// Puts the item into the slot in front, which goes behind the others.
     pub fn refill(&self, seat: &mut BareSeat<D>, at: u16, item: D::Item)
         requires table { seat.old.table_id ≡ self.now.table.shared.table_id }
-        requires slot { seat.old.me.1 ≡ (at, Place.Item None) ∷ rest seat.old.me.1 }
+        requires slot { seat.old.me.1 ≡ (at, Place.Vacant) ∷ rest seat.old.me.1 }
         ensures same { (seat.new.table_id ≡ seat.old.table_id) × (seat.new.id ≡ seat.old.id) }
-        ensures filled { seat.new.me ≡ (seat.old.me.0, rest seat.old.me.1 ++ (at, Place.Item (Some item)) ∷ []) }
+        ensures filled { seat.new.me ≡ (seat.old.me.0, rest seat.old.me.1 ++ (at, Place.Item item) ∷ []) }
     {
-        match seat.slot_mut(&self.table.shared, at as usize) {
-            Place::Item(place) => *place = Some(item),
-            _ => unreachable!(),
-        }
+        *seat.slot_mut(&self.table.shared, at as usize) = Place::Item(item);
         seat.turn();
     }
 

@@ -8,25 +8,25 @@ use Rattle.ifl_ring.specs.Calls.{IsTotal}
 use Rattle.ifl_ring.proofs.Settling.{over_is, ends_at}
 use Rattle.ifl_ring.proofs.bare.BareRing.round.Goals as goal
 
-pub begin-drainer-requires-clause-drives : goal.begin-drainer-requires-clause-drives
-begin-drainer-requires-clause-drives g c κs within = c.requires.drives.0
+pub begin-outlet-requires-clause-drives : goal.begin-outlet-requires-clause-drives
+begin-outlet-requires-clause-drives g c κs within = c.requires.drives.0
 
 pub consume-round-requires-clause-at : goal.consume-round-requires-clause-at
 consume-round-requires-clause-at g c κs within = (c.requires.at.0, c.requires.drives.0.some, c.requires.at.2)
 
 pub consume-round-requires-clause-consuming : goal.consume-round-requires-clause-consuming
-consume-round-requires-clause-consuming g c κs within = let d = c.requires.drives in let b = c.begin-drainer.ensures.consuming d.0 in
+consume-round-requires-clause-consuming g c κs within = let d = c.requires.drives in let b = rw (← c.deref_mut.ensures.value) at (c.begin-outlet.ensures.consuming d.0) in
     (b.0, subst (λ (z : Consumer). IsTotal c.args.before z.total) (sym b.1) d.1, ap (λ (z : Consumer). z.budget) b.1 ∙ d.2, b.2)
 
 pub advance-first-requires-clause-n : goal.advance-first-requires-clause-n
-advance-first-requires-clause-n g c = let d = c.requires.drives in let v = d.0 in let b = c.begin-drainer.ensures.consuming v in
+advance-first-requires-clause-n g c = let d = c.requires.drives in let v = d.0 in let b = rw (← c.deref_mut.ensures.value) at (c.begin-outlet.ensures.consuming v) in
     let x = c.consume-round.ensures.round b.0 (subst (λ (z : Consumer). IsTotal c.args.before z.total) (sym b.1) d.1) (ap (λ (z : Consumer). z.budget) b.1 ∙ d.2) in
     let drain_is : x.0.consumer ≡ v.consumer = x.1 ∙ b.1 in let all = x.0.all in let sum = v.all in let small = c.requires.at.1 in let range = c.args.self.now.range in
     let done_is : x.0.consumer.done ≡ v.consumer.done = ap (λ (z : Consumer). z.done) drain_is in let known_is : x.0.consumer.known ≡ v.consumer.known = ap (λ (z : Consumer). z.known) drain_is in
     (let f : c.consume-round.result.count < c.args.self.now.size = omega arith in f)
 
 pub park-requires-clause-consuming : goal.park-requires-clause-consuming
-park-requires-clause-consuming g c κs within = let d = c.requires.drives in let v = d.0 in let b = c.begin-drainer.ensures.consuming v in
+park-requires-clause-consuming g c κs within = let d = c.requires.drives in let v = d.0 in let b = rw (← c.deref_mut.ensures.value) at (c.begin-outlet.ensures.consuming v) in
     let x = c.consume-round.ensures.round b.0 (subst (λ (z : Consumer). IsTotal c.args.before z.total) (sym b.1) d.1) (ap (λ (z : Consumer). z.budget) b.1 ∙ d.2) in
     let drain_is : x.0.consumer ≡ v.consumer = x.1 ∙ b.1 in let all = x.0.all in let sum = v.all in let small = c.requires.at.1 in let range = c.args.self.now.range in
     let done_is : x.0.consumer.done ≡ v.consumer.done = ap (λ (z : Consumer). z.done) drain_is in let known_is : x.0.consumer.known ≡ v.consumer.known = ap (λ (z : Consumer). z.known) drain_is in
@@ -35,17 +35,17 @@ park-requires-clause-consuming g c κs within = let d = c.requires.drives in let
     (x.0, first)
 
 pub park-requires-clause-range : goal.park-requires-clause-range
-park-requires-clause-range g c κs within = let d = c.requires.drives in let v = d.0 in let b = c.begin-drainer.ensures.consuming v in
+park-requires-clause-range g c κs within = let d = c.requires.drives in let v = d.0 in let b = rw (← c.deref_mut.ensures.value) at (c.begin-outlet.ensures.consuming v) in
     let x = c.consume-round.ensures.round b.0 (subst (λ (z : Consumer). IsTotal c.args.before z.total) (sym b.1) d.1) (ap (λ (z : Consumer). z.budget) b.1 ∙ d.2) in
     let drain_is : x.0.consumer ≡ v.consumer = x.1 ∙ b.1 in let all = x.0.all in let sum = v.all in let small = c.requires.at.1 in let range = c.args.self.now.range in
     let done_is : x.0.consumer.done ≡ v.consumer.done = ap (λ (z : Consumer). z.done) drain_is in let known_is : x.0.consumer.known ≡ v.consumer.known = ap (λ (z : Consumer). z.known) drain_is in
     let pos = c.advance-first.ensures in (rw c.advance-first.ensures (mod-lt _ (let f : 0 < c.args.self.now.size = omega arith in f)), omega arith, omega arith)
 
 pub settle-flag-requires-clause-lived : goal.settle-flag-requires-clause-lived
-settle-flag-requires-clause-lived g c κs within = let kept = c.park.ensures.same.2 ∙ (c.consume-round.ensures.same.2 ∙ c.begin-drainer.ensures.same.2) in subst (λ (z : Known). IsLived c.args.self.now.size z) (ap (λ z. z.known) (sym kept)) c.requires.lived
+settle-flag-requires-clause-lived g c κs within = let kept = c.park.ensures.same.2 ∙ (c.consume-round.ensures.same.2 ∙ c.begin-outlet.ensures.same.2) in subst (λ (z : Known). IsLived c.args.self.now.size z) (ap (λ z. z.known) (sym kept)) c.requires.lived
 
 pub settle-flag-requires-clause-parked : goal.settle-flag-requires-clause-parked
-settle-flag-requires-clause-parked g c κs within = let d = c.requires.drives in let v = d.0 in let b = c.begin-drainer.ensures.consuming v in
+settle-flag-requires-clause-parked g c κs within = let d = c.requires.drives in let v = d.0 in let b = rw (← c.deref_mut.ensures.value) at (c.begin-outlet.ensures.consuming v) in
     let x = c.consume-round.ensures.round b.0 (subst (λ (z : Consumer). IsTotal c.args.before z.total) (sym b.1) d.1) (ap (λ (z : Consumer). z.budget) b.1 ∙ d.2) in
     let drain_is : x.0.consumer ≡ v.consumer = x.1 ∙ b.1 in let all = x.0.all in let sum = v.all in let small = c.requires.at.1 in let range = c.args.self.now.range in
     let done_is : x.0.consumer.done ≡ v.consumer.done = ap (λ (z : Consumer). z.done) drain_is in let known_is : x.0.consumer.known ≡ v.consumer.known = ap (λ (z : Consumer). z.known) drain_is in
@@ -61,14 +61,14 @@ settle-flag-requires-clause-parked g c κs within = let d = c.requires.drives in
     )
 
 pub returns-clause-trail : goal.returns-clause-trail
-returns-clause-trail g c = λ v total budget. let b = c.begin-drainer.ensures.consuming v in
+returns-clause-trail g c = λ v total budget. let b = rw (← c.deref_mut.ensures.value) at (c.begin-outlet.ensures.consuming v) in
     let x = c.consume-round.ensures.round b.0 (subst (λ (z : Consumer). IsTotal c.args.before z.total) (sym b.1) total) (ap (λ (z : Consumer). z.budget) b.1 ∙ budget) in
     let drain_is : x.0.consumer ≡ v.consumer = x.1 ∙ b.1 in
     let done_is : x.0.consumer.done ≡ v.consumer.done = ap (λ (z : Consumer). z.done) drain_is in
     let first : c.advance-first.result ≡ (x.0.consumer.done + c.consume-round.result.count) % c.args.self.now.size = c.advance-first.ensures ∙ ap (λ (z : ℕ). (z + c.consume-round.result.count) % c.args.self.now.size) v.here
     ∙ mod-add-mod v.consumer.done c.args.self.now.size c.consume-round.result.count ∙ ap (λ (z : ℕ). (z + c.consume-round.result.count) % c.args.self.now.size) (sym done_is) in
     let p = c.park.ensures.parked x.0 first in let n : ℕ = c.consume-round.result.count in let same : p.0.consumer ≡ v.consumer = p.1 ∙ drain_is in
-    let kept = c.park.ensures.same.2 ∙ (c.consume-round.ensures.same.2 ∙ c.begin-drainer.ensures.same.2) in
+    let kept = c.park.ensures.same.2 ∙ (c.consume-round.ensures.same.2 ∙ c.begin-outlet.ensures.same.2) in
     let q = c.settle-flag.ensures.trail p.0 in (
       n,
       q.0,

@@ -38,7 +38,7 @@ give-requires-clause-count g c κs within = let t = look_sized c.args.self.now.t
 
 pub give-requires-clause-parked : goal.give-requires-clause-parked
 give-requires-clause-parked g c κs within = let t = look_sized c.args.self.now.table.shared.table_id.slots c.args.self.now.size c.load-word.result c.loop.seat.me c.load-word.new.seat.me c.args.self.now.sized.1 c.load-word.ensures.2 in let q = c.loop.invariant.3 c.requires.parked.0 in let r = parked_still g.D.Item.RingItem.meaning g.D.Drainer.origin g.D.Drainer.settled g.D.Drainer.full g.D.Drainer.stands_for c.args.self.now.size c.args.n c.load-word.result c.loop.seat.me c.load-word.new.seat.me t.0 t.1 t.2 q.0 in let p = c.requires.parked.0 in
-    let m = may_give c.args.stalled c.args.over (g.D.Drainer.full p.drainer) c.args.self.now.size c.args.n (length p.items) p.consumer c.read-w.result c.flag_to_set-flag.result c.flag_to_set-flag.ensures.stalled c.flag_to_set-flag.ensures.others c.requires.parked.1 c.requires.parked.2 p.all in (
+    let m = may_give c.args.stalled c.args.over (g.D.Drainer.full p.outlet.value.drainer) c.args.self.now.size c.args.n (length p.items) p.consumer c.read-w.result c.flag_to_set-flag.result c.flag_to_set-flag.ensures.stalled c.flag_to_set-flag.ensures.others c.requires.parked.1 c.requires.parked.2 p.all in (
       r.0,
       subst (λ (z : Consumer). MayPart c.args.self.now.size c.flag_to_set-flag.result c.args.n z c.read-w.result) (sym (r.1 ∙ q.1)) m.0,
       λ e. subst g.D.Drainer.full (sym (r.2 ∙ q.2)) (m.1 e),

@@ -1,6 +1,6 @@
-use Rattle.std.specs.Prelude.{None}
-use Rattle.ifl_ring.specs.declared.place.Place.TheVariants.{Item, Post}
-use Rattle.std.proofs.Common.{ℕ, ◌≡◌, arith, ap, ◌∙◌, ◌+◌, ◌++◌, ◌∷◌, [], replicate}
+use Rattle.std.specs.VecDeque.{deque_capacity}
+use Rattle.ifl_ring.specs.declared.place.Place.TheVariants.{Vacant, Post}
+use Rattle.std.proofs.Common.{ℕ, ◌≡◌, arith, ap, ◌∙◌, ◌+◌, ◌≤◌, ◌++◌, ◌∷◌, [], replicate}
 use Rattle.ifl_ring.proofs.Opens.{replicate_snoc}
 use Rattle.ifl_ring.proofs.bare.slots.make_slots.Goals as goal
 
@@ -9,9 +9,10 @@ loop-preserved g c = (rw c.push_reserved.ensures.items (rw c.loop.invariant.0 (r
 
 pub returns-clause-ok : goal.returns-clause-ok
 returns-clause-ok g c = let many = c.in-Ok-with_capacity.ensures.capacity in let room = c.batch_room.ensures in let all : c.loop.counter ≡ c.args.size = omega arith in (
-  c.in-Ok-with_capacity.batch,
-  c.push_reserved-2.ensures.items ∙ ap (λ z. z ++ Post c.args.drainer c.in-Ok-with_capacity.batch ∷ []) (c.loop.invariant.0 ∙ ap (λ (k : ℕ). replicate k (Item None)) all),
-  c.in-Ok-with_capacity.ensures.items,
-  omega arith,
-  omega arith,
+  c.in-Ok-new.outlet,
+  c.push_reserved-2.ensures.items ∙ ap (λ z. z ++ Post c.in-Ok-new.outlet ∷ []) (c.loop.invariant.0 ∙ ap (λ (k : ℕ). replicate k Vacant) all),
+  ap (λ z. z.drainer) c.in-Ok-new.ensures.ok,
+  ap (λ z. z.batch.items) c.in-Ok-new.ensures.ok ∙ c.in-Ok-with_capacity.ensures.items,
+  rw c.in-Ok-new.ensures.ok (let f : 32 ≤ deque_capacity c.in-Ok-with_capacity.batch = omega arith in f),
+  rw c.in-Ok-new.ensures.ok (let f : c.args.size ≤ deque_capacity c.in-Ok-with_capacity.batch = omega arith in f),
 )
