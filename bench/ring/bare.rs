@@ -79,8 +79,7 @@ impl Ring {
         self.word.compare_exchange(old.pack(), new.pack(), SeqCst, SeqCst).map(|_| ()).map_err(Word::of)
     }
 
-    fn claim(&self) -> Option<u32> {
-        let mut seen = self.look();
+    fn look_for_quiet(&self, mut seen: Word) -> Word {
         for _ in 0..LOOKS {
             if seen.head == seen.tail {
                 break;
@@ -88,12 +87,18 @@ impl Ring {
             thread::yield_now();
             seen = self.look();
         }
+        seen
+    }
+
+    fn claim(&self) -> Option<u32> {
+        let mut seen = self.look();
         loop {
-            if space(seen) <= 1 {
+            let quiet = self.look_for_quiet(seen);
+            if space(quiet) <= 1 {
                 return None;
             }
-            match self.exchange(seen, Word { head: advance(seen.head, 1), ..seen }) {
-                Ok(()) => return Some(seen.head),
+            match self.exchange(quiet, Word { head: advance(quiet.head, 1), ..quiet }) {
+                Ok(()) => return Some(quiet.head),
                 Err(found) => seen = found,
             }
         }

@@ -133,8 +133,7 @@ impl<D: Drainer> Ring<D> {
         self.word.compare_exchange(old.pack(), new.pack(), SeqCst, SeqCst).map(|_| ()).map_err(RingWord::unpack)
     }
 
-    fn look_for_quiet(&self) -> RingWord {
-        let mut seen = self.look();
+    fn look_for_quiet(&self, mut seen: RingWord) -> RingWord {
         for _ in 0..LOOKS {
             if seen.head == seen.tail {
                 break;
@@ -146,13 +145,14 @@ impl<D: Drainer> Ring<D> {
     }
 
     fn claim(&self, n: u32) -> Result<u16, RingWord> {
-        let mut seen = self.look_for_quiet();
+        let mut seen = self.look();
         loop {
-            if space(self.size, seen) <= n {
-                return Err(seen);
+            let quiet = self.look_for_quiet(seen);
+            if space(self.size, quiet) <= n {
+                return Err(quiet);
             }
-            match self.exchange(seen, RingWord { head: advance(self.size, seen.head, n), ..seen }) {
-                Ok(()) => return Ok(seen.head),
+            match self.exchange(quiet, RingWord { head: advance(self.size, quiet.head, n), ..quiet }) {
+                Ok(()) => return Ok(quiet.head),
                 Err(found) => seen = found,
             }
         }

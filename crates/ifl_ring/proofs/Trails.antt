@@ -65,6 +65,13 @@ pub looks-append : (es fs : List Entry) → AreLooks es → AreLooks fs → AreL
 looks-append [] fs a b = b
 looks-append (e ∷ es) fs (is, a) b = (is, looks-append es fs a b)
 
+pub trail-first_look : (size : ℕ) (v w : Known) (n : ℕ) → Has v.number v.stands → Made size v (entry v.number n Look) w → (es : List Entry) × AreLooks es × Trails size v es nothing_counted w
+trail-first_look size v w n mine m = let e : Entry = entry v.number n Look in (e ∷ [], (refl, tt), trail-made size v e w mine m)
+
+pub trail-looks : (size : ℕ) (u v w : Known) → (es : List Entry) × AreLooks es × Trails size u es nothing_counted v → (fs : List Entry) × AreLooks fs × Trails size v fs nothing_counted w
+    → (gs : List Entry) × AreLooks gs × Trails size u gs nothing_counted w
+trail-looks size u v w (es, a, t) (fs, b, s) = (es ++ fs, looks-append es fs a b, trail-after size u v w es fs nothing_counted t s)
+
 pub trail-look : (size : ℕ) (u v w : Known) (es : List Entry) (n : ℕ) → AreLooks es → Trails size u es nothing_counted v → Has v.number v.stands → Made size v (entry v.number n Look) w
     → (fs : List Entry) × AreLooks fs × Trails size u fs nothing_counted w
 trail-look size u v w es n quiet t mine m = let e : Entry = entry v.number n Look in

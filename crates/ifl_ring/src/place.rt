@@ -12,7 +12,7 @@ pub enum Place<I, D> {
     Post(Box<Outlet<I, D>>),
     Away,
     Told(u64),
-    Parting(u64, Flag),
+    Parting(u32, Flag),
 }
 
 /// The drainer, and the batch in which it is offered items.

@@ -20,7 +20,7 @@ use ifl_base::{RingWord, space};
 use std::sync::Wait;
 use std::thread::yield_now;
 
-// How often a seat looks, before it reserves, for a word in which no seat is about to publish.
+// How often a seat looks, before each try to reserve, for a word in which no seat is about to publish.
 const LOOKS: u32 = 64;
 
 impl<D: Drainer> BareRing<D> {
@@ -43,16 +43,19 @@ impl<D: Drainer> BareRing<D> {
         read(self.size, word)
     }
 
-    /// Looks at the word, and again, for some time, while some seat is about to publish.
-    pub fn look_for_quiet(&self, seat: &mut BareSeat<D>) -> RingWord
+    /// The word that was seen, or, while some seat is about to publish, one that a further look finds. It looks again for
+    /// some time only.
+    pub fn look_for_quiet(&self, seat: &mut BareSeat<D>, seen: RingWord) -> RingWord
         requires table { seat.old.table_id ≡ self.now.table.shared.table_id }
         requires rest { Rests seat.old.me }
+        requires lived { IsLived self.now.size seat.old.me.0.known }
+        requires within { IsWithin self.now.size seen }
         ensures same { (seat.new.table_id ≡ seat.old.table_id) × (seat.new.id ≡ seat.old.id) }
         ensures rest { Rests seat.new.me }
         ensures within { IsWithin self.now.size result }
         ensures trail { (es : _) × AreLooks es × Trails self.now.size seat.old.me.0.known es nothing_counted seat.new.me.0.known }
     {
-        let mut seen = self.look(seat);
+        let mut seen = seen;
         for _ in 0..LOOKS {
             if seen.head == seen.tail {
                 return seen;
@@ -101,9 +104,10 @@ impl<D: Drainer> BareRing<D> {
         ensures ok { IfOk result (λ place. (place < self.now.size) × (n < self.now.size) × HasPlaces self.now.size n place seat.new.me × ((es : _) × EndsReserved n es × Trails self.now.size seat.old.me.0.known es nothing_counted seat.new.me.0.known)) }
         ensures err { IfErr result (λ seen. Rests seat.new.me × (space self.now.size seen ≤ n) × ((es : _) × (publishing es ≡ []) × EndsRefused n seen es × Trails self.now.size seat.old.me.0.known es (record nothing_counted { drops = n }) seat.new.me.0.known)) }
     {
-        let mut seen = self.look_for_quiet(seat);
+        let mut seen = self.look(seat);
         for _ in rt.forever() {
-            let roomy = match self.find_room(seat, seen, n) {
+            let quiet = self.look_for_quiet(seat, seen);
+            let roomy = match self.find_room(seat, quiet, n) {
                 Ok(roomy) => roomy,
                 Err(full) => return Err(full),
             };

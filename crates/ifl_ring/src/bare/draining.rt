@@ -119,12 +119,7 @@ impl<D: Drainer> BareRing<D> {
         self.turn_by(seat, left + 1 + n);
         self.put_back(seat, &mut outlet.batch, first);
         self.turn_by(seat, left);
-        drop(
-            self.table
-                .shared
-                .exchange(seat, self.size as usize, Place::Post(outlet)),
-        );
-        seat.turn();
+        self.put_post(seat, outlet);
     }
 
     /// One batch: whether the round goes on.

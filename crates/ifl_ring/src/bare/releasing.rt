@@ -35,7 +35,7 @@ impl<D: Drainer> BareRing<D> {
             cidx: advance(self.size, w.cidx, n),
             flag,
         };
-        let said = Place::Parting(n as u64, flag);
+        let said = Place::Parting(n, flag);
         let old = w.pack();
         let found = self
             .table

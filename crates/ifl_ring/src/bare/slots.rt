@@ -87,6 +87,24 @@ impl<D: Drainer> BareRing<D> {
         }
     }
 
+    /// Puts the drainer with its batch into the slot in front, which goes behind the others.
+    pub fn put_post(&self, seat: &mut BareSeat<D>, outlet: Box<Outlet<D::Item, D>>)
+        requires table { seat.old.table_id ≡ self.now.table.shared.table_id }
+        requires slot { seat.old.me.1 ≡ (self.now.size, Place.Away) ∷ rest seat.old.me.1 }
+        ensures same { (seat.new.table_id ≡ seat.old.table_id) × (seat.new.id ≡ seat.old.id) }
+        ensures filled { seat.new.me ≡ (seat.old.me.0, rest seat.old.me.1 ++ (self.now.size, Place.Post outlet) ∷ []) }
+    {
+        match self
+            .table
+            .shared
+            .exchange(seat, self.size as usize, Place::Post(outlet))
+        {
+            Place::Away => {}
+            _ => unreachable!(),
+        }
+        seat.turn();
+    }
+
     /// Takes the item out of the slot in front, which goes behind the others.
     pub fn take_item(&self, seat: &mut BareSeat<D>, at: u16) -> D::Item
         requires table { seat.old.table_id ≡ self.now.table.shared.table_id }
@@ -152,7 +170,14 @@ impl<D: Drainer> BareRing<D> {
         ensures same { (seat.new.table_id ≡ seat.old.table_id) × (seat.new.id ≡ seat.old.id) }
         ensures filled { seat.new.me ≡ (seat.old.me.0, rest seat.old.me.1 ++ (at, Place.Item item) ∷ []) }
     {
-        *seat.slot_mut(&self.table.shared, at as usize) = Place::Item(item);
+        match self
+            .table
+            .shared
+            .exchange(seat, at as usize, Place::Item(item))
+        {
+            Place::Vacant => {}
+            _ => unreachable!(),
+        }
         seat.turn();
     }
 
