@@ -19,7 +19,7 @@ use crate::drainer::{Drainer, RingItem};
 use crate::place::Sheet;
 use crate::view::Known;
 use atomic_table::{Refused, Table};
-use ifl_base::{PART, RingWord};
+use ifl_base::{PART, RING_MAX, RING_MIN, RingWord};
 use ifl_outside::Gate;
 use ifl_ringcore::Counters;
 use std::alloc::Global;
@@ -99,7 +99,7 @@ impl<D: Drainer> Ring<D> {
         ensures fault { IfErr result (λ r. IsFaultOf size r.0) }
         ensures drainer { IfErr result (λ r. r.1 ≡ drainer) }
     {
-        if size < 4 || size > 65536 {
+        if size < RING_MIN || size > RING_MAX {
             return Err((RingFault::BadSize(size), drainer));
         }
         let key = Sheet {

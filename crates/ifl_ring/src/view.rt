@@ -2,9 +2,11 @@
 use ifl_ringcore::Entry;
 use std::collections::LinkedList;
 
-/// What a seat that was joined had seen, and the numbers that it stood for.
+/// One of two seats that were joined, as it was then. The joined seat remembers both until its next step.
 pub struct Past {
+    /// The numbers for which it stood.
     pub stands: LinkedList<u64>,
+    /// The beginning of the ring's history that it had seen.
     pub seen: LinkedList<Entry>,
 }
 
@@ -22,8 +24,9 @@ pub struct Known {
 
 /// What the rule of the ring's table knows of a seat.
 pub struct View<O> {
+    /// What contracts see of the seat.
     pub known: Known,
-    /// The seats that were joined to it since its last step.
+    /// The two seats that it was made of by a join since its last step, if there was one.
     pub told: LinkedList<Past>,
     /// With what the ring's drainer was made; none of a seat that was joined to another.
     pub origin: Option<O>,

@@ -11,28 +11,36 @@ use crate::bare::{BareRing, BareSeat};
 use crate::drainer::{Drainer, RingItem};
 use crate::place::{Outlet, Place};
 use crate::word::is_busy;
-use ifl_base::{Flag, advance};
+use ifl_base::{Flag, UPDATE_AFTER, advance};
 use std::collections::VecDeque;
 use std::sync::Wait;
 
-// A round so far: how many items are consumed in it and in the whole drain, whether the drainer consumed none at last,
-// and the items that are left in the slots.
+/// A round so far.
 #[derive(Drop)]
 pub struct Round {
-    count: u32,
-    total: u64,
-    stalled: bool,
-    at: u16,
-    left: u32,
+    /// How many items are consumed in it.
+    pub count: u32,
+    /// How many items are consumed in the whole drain, or `u64::MAX` where they are more.
+    pub total: u64,
+    /// Whether the drainer consumed none at last.
+    pub stalled: bool,
+    /// The place of the first item that is left in the slots.
+    pub at: u16,
+    /// How many items are left in the slots.
+    pub left: u32,
 }
 
-// A round that ended.
+/// A round that ended.
 #[derive(Drop)]
 pub struct Done {
-    flag: Flag,
-    total: u64,
-    at: u16,
-    left: u32,
+    /// The flag that it set.
+    pub flag: Flag,
+    /// How many items are consumed in the whole drain, or `u64::MAX` where they are more.
+    pub total: u64,
+    /// The place at which the next round begins, where the flag is busy.
+    pub at: u16,
+    /// How many items the next round has.
+    pub left: u32,
 }
 
 /// Whether a round goes on after a batch.
@@ -40,7 +48,7 @@ pub fn goes_on(k: u32, more: u64, count: u32, total: u64, budget: u32) -> bool
     ensures yes { result ≡ true → (1 ≤ k) × (1 ≤ more) × (count < 64) × (total < budget) }
     ensures no { result ≡ false → (k ≡ 0) ⊎ (more ≡ 0) ⊎ (64 ≤ count) ⊎ (budget ≤ total) }
 {
-    k > 0 && more > 0 && count < 64 && total < budget as u64
+    k > 0 && more > 0 && count < UPDATE_AFTER && total < budget as u64
 }
 
 /// Whether nothing was consumed.
@@ -199,6 +207,7 @@ impl<D: Drainer> BareRing<D> {
     }
 
     /// One round of the drain: the flag that is set, and where the next round begins.
+    #[inline(always)]
     pub fn round<R: Wait>(
         &self,
         rt: &R,
@@ -235,6 +244,7 @@ impl<D: Drainer> BareRing<D> {
 
     /// Drains until the ring is no longer busy: the flag that is left, and how many items were consumed. `from`, the
     /// flag before, is for the contract alone.
+    #[inline(always)]
     pub fn drain<R: Wait>(
         &self,
         rt: &R,

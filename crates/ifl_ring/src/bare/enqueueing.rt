@@ -137,6 +137,8 @@ impl<D: Drainer> BareRing<D> {
     }
 
     /// Consumes what was left in a word that said stalled, with a budget of nothing. The tally counts this.
+    #[cold]
+    #[inline(never)]
     pub fn relieve<R: Wait>(
         &self,
         rt: &R,

@@ -143,7 +143,7 @@ impl<D: Drainer> BareRing<D> {
     {
         let mut slot = at;
         let mut more = left;
-        while more > 0 && batch.len() < 32 {
+        while more > 0 && batch.len() < DRAIN_BATCH as usize {
             let item = self.take_item(seat, slot);
             batch.push_back_reserved(item);
             slot = advance(self.size, slot, 1);
