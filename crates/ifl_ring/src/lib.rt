@@ -14,6 +14,7 @@ mod bare;
 mod closed;
 mod counted;
 mod drainer;
+pub mod laws;
 mod place;
 mod plays;
 mod published;
