@@ -18,7 +18,7 @@ def make(folder, layers, name, stands_on, source, proofs):
                         ignore=shutil.ignore_patterns("out", "must-fail"))
     shutil.copy(os.path.join(TOP, "HANDLES"), folder)
     with open(os.path.join(TOP, "crates.txt")) as lines:
-        kept = [line for line in lines if line.split(":")[0] in layers]
+        kept = [line for line in lines if line.split(":")[0].split(" ")[0] in layers]
     with open(os.path.join(folder, "crates.txt"), "w") as out:
         out.writelines(kept + [f"{name}: {stands_on}\n"])
     crate = os.path.join(folder, "crates", name)
