@@ -23,7 +23,7 @@ use Rattle.ifl_ring.specs.declared.view.Known.{Known}
 use Rattle.ifl_ring.specs.declared.view.View.{View}
 use Rattle.ifl_ring.specs.Calls.{AreLooks, AreOfDrain, EndsReserved, IsChecked, IsDrain, parting, publishes, publishing}
 use Rattle.ifl_ring.specs.Law.{Has, IsAtRest}
-use Rattle.ifl_ring.specs.Tells.{entry, Made, nothing, place_of, refused, Reserves, Same}
+use Rattle.ifl_ring.specs.Tells.{entry, last_word, Made, nothing, place_of, refused, Reserves, Same}
 use Rattle.ifl_ring.proofs.Bridge.{place_head, sized}
 use Rattle.ifl_ring.proofs.Reserving.{word_is}
 use Rattle.ifl_ring.proofs.Rests.{rests}
@@ -34,16 +34,17 @@ use Rattle.ifl_base.specs.declared.word.Flag.TheVariants.{Idle, Busy, Stalled, A
 module _ {I D O : Type 0} where
   -- what a step that finds any word tells of the word that was read
   pub refused-sized : (slots size k old new x : ℕ) (m m' : Me (Place I D) (View O)) (word : RingWord) → slots ≡ size + 1 → 0 < size → size ≤ 65536 → IsWithin size word → pack word ≡ x → refused (step slots 0 old new (some (Told k))) m x m'
-      → Same m.0 m'.0 × (m'.1 ≡ m.1)
+      → Same m.0 m'.0 × (m'.1 ≡ m.1) × (word ≡ last_word size m'.0.known)
       × (space size word ≤ k → Made size m.0.known (entry m.0.known.number (pack word) (Refuse k)) m'.0.known)
       × (k < space size word → Made size m.0.known (entry m.0.known.number (pack word) Look) m'.0.known)
   refused-sized slots size k old new x m m' word sl pos small within packs t =
       let size_eq : slots - 1 ≡ size = sized slots size sl in let w : RingWord = t.2 in
-      let at_size : w ≡ ring_word size (state_after first_state m'.0.known.seen) = t.4 ∙ ap (λ (z : ℕ). ring_word z (state_after first_state m'.0.known.seen)) size_eq in
+      let at_size : w ≡ last_word size m'.0.known = t.4 ∙ ap (λ (z : ℕ). ring_word z (state_after first_state m'.0.known.seen)) size_eq in
       let same : w ≡ word = at_size ∙ word_is size (state_after first_state m'.0.known.seen) word pos small within (ap pack (sym at_size) ∙ sym t.3 ∙ sym packs) in
       let found : x ≡ pack word = sym packs in (
         t.0,
         t.1,
+        sym same ∙ at_size,
         subst (λ (z : ℕ × RingWord × ℕ). space z.0 z.1 ≤ k → Made z.0 m.0.known (entry m.0.known.number z.2 (Refuse k)) m'.0.known) (λ i. (size_eq i, same i, found i)) t.5,
         subst (λ (z : ℕ × RingWord × ℕ). k < space z.0 z.1 → Made z.0 m.0.known (entry m.0.known.number z.2 Look) m'.0.known) (λ i. (size_eq i, same i, found i)) t.6,
       )

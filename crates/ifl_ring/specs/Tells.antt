@@ -45,12 +45,16 @@ pub record Made (size : ℕ) (v : Known) (e : Entry) (w : Known) : Type 0 where
 abbrev pub size_of : {S : Type 0} → TableStep S → ℕ
 size_of st = st.slots - 1
 
+-- the word as the seat saw it last
+abbrev pub last_word : ℕ → Known → RingWord
+last_word size v = ring_word size (state_after first_state v.seen)
+
 abbrev pub Looks : ℕ → Known → ℕ → Known → Type 0
-Looks size v n w = Made size v (entry v.number n Look) w × (n ≡ pack (ring_word size (state_after first_state w.seen)))
+Looks size v n w = Made size v (entry v.number n Look) w × (n ≡ pack (last_word size w))
 
 -- the seat looked, and this is the word that its look found
 abbrev pub Looked : ℕ → Known → RingWord → Known → Type 0
-Looked size v w after_it = Made size v (entry v.number (pack w) Look) after_it × (w ≡ ring_word size (state_after first_state after_it.seen))
+Looked size v w after_it = Made size v (entry v.number (pack w) Look) after_it × (w ≡ last_word size after_it)
 
 -- the first number of a seat's reservation
 abbrev pub start_of : Option Reservation → ℕ
@@ -263,7 +267,7 @@ HoldsAt size k at m = (h : Holding size k m) × (at ≡ h.place % size)
 module _ {I D O : Type 0} where
   -- a step that finds any word: the seat is refused where the word has no room for what it wants, and looks otherwise
   abbrev pub refused : TableStep (Place I D) → Me (Place I D) (View O) → ℕ → Me (Place I D) (View O) → Type 0
-  refused st m n m' = Same m.0 m'.0 × (m'.1 ≡ m.1) × (w : RingWord) × (n ≡ pack w) × (w ≡ ring_word (size_of st) (state_after first_state m'.0.known.seen))
+  refused st m n m' = Same m.0 m'.0 × (m'.1 ≡ m.1) × (w : RingWord) × (n ≡ pack w) × (w ≡ last_word (size_of st) m'.0.known)
       × (space (size_of st) w ≤ told st.said → Made (size_of st) m.0.known (entry m.0.known.number n (Refuse (told st.said))) m'.0.known)
       × (told st.said < space (size_of st) w → Made (size_of st) m.0.known (entry m.0.known.number n Look) m'.0.known)
 

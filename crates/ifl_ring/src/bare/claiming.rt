@@ -9,7 +9,7 @@ ghost use Rattle.ifl_ringcore.specs.Counters.{nothing_counted};
 ghost use Rattle.ifl_ring.specs.Calls.{AreLooks, EndsRefused, EndsReserved, Finds, publishing};
 ghost use Rattle.ifl_ring.specs.Law.{Rests};
 ghost use Rattle.ifl_ring.specs.Publishing.{HasPlaces};
-ghost use Rattle.ifl_ring.specs.Tells.{entry, Made};
+ghost use Rattle.ifl_ring.specs.Tells.{entry, last_word, Made};
 ghost use Rattle.ifl_ring.specs.Trails.{IsLived, Trails};
 
 use crate::bare::{BareRing, BareSeat, read};
@@ -32,6 +32,7 @@ impl<D: Drainer> BareRing<D> {
         ensures same { (seat.new.table_id ≡ seat.old.table_id) × (seat.new.id ≡ seat.old.id) }
         ensures rest { Rests seat.new.me }
         ensures within { IsWithin self.now.size result }
+        ensures shown { result ≡ last_word self.now.size seat.new.me.0.known }
         ensures refused { space self.now.size result ≤ n → Made self.now.size seat.old.me.0.known (entry seat.old.me.0.known.number (pack result) (step.Refuse n)) seat.new.me.0.known }
         ensures looked { n < space self.now.size result → Made self.now.size seat.old.me.0.known (entry seat.old.me.0.known.number (pack result) step.Look) seat.new.me.0.known }
     {
@@ -50,9 +51,11 @@ impl<D: Drainer> BareRing<D> {
         requires rest { Rests seat.old.me }
         requires lived { IsLived self.now.size seat.old.me.0.known }
         requires within { IsWithin self.now.size seen }
+        requires shown { seen ≡ last_word self.now.size seat.old.me.0.known }
         ensures same { (seat.new.table_id ≡ seat.old.table_id) × (seat.new.id ≡ seat.old.id) }
         ensures rest { Rests seat.new.me }
         ensures within { IsWithin self.now.size result }
+        ensures shown { result ≡ last_word self.now.size seat.new.me.0.known }
         ensures trail { (es : _) × AreLooks es × Trails self.now.size seat.old.me.0.known es nothing_counted seat.new.me.0.known }
     {
         let mut seen = seen;
@@ -79,9 +82,10 @@ impl<D: Drainer> BareRing<D> {
         requires lived { IsLived self.now.size seat.old.me.0.known }
         requires batch { IsBatch n }
         requires within { IsWithin self.now.size seen }
+        requires shown { seen ≡ last_word self.now.size seat.old.me.0.known }
         ensures same { (seat.new.table_id ≡ seat.old.table_id) × (seat.new.id ≡ seat.old.id) }
         ensures rest { Rests seat.new.me }
-        ensures ok { IfOk result (λ w. IsWithin self.now.size w × (n < space self.now.size w) × ((es : _) × AreLooks es × Trails self.now.size seat.old.me.0.known es nothing_counted seat.new.me.0.known)) }
+        ensures ok { IfOk result (λ w. IsWithin self.now.size w × (n < space self.now.size w) × (w ≡ last_word self.now.size seat.new.me.0.known) × ((es : _) × AreLooks es × Trails self.now.size seat.old.me.0.known es nothing_counted seat.new.me.0.known)) }
         ensures err { IfErr result (λ w. (space self.now.size w ≤ n) × ((e : Entry) × Finds (step.Refuse n) w e × Trails self.now.size seat.old.me.0.known (e ∷ []) (record nothing_counted { drops = n }) seat.new.me.0.known)) }
     {
         if n < space(self.size, &seen) {

@@ -18,13 +18,16 @@ read-requires-clause-word g c = let t = c.compare_exchange_with-word.ensures.2 i
 pub returns-clause-rest : goal.returns-clause-rest
 returns-clause-rest g c = let range = c.args.self.now.range in let size : ℕ = c.args.self.now.size in
     let t = refused-sized _ size c.args.n 18446744073709551615 0 c.compare_exchange_with-word.result c.args.seat.now.me c.compare_exchange_with-word.new.seat.me c.read.result c.args.self.now.sized.1 (omega arith) range.1 c.read.ensures.within c.read.ensures.packs c.compare_exchange_with-word.ensures.2 in (
-      dite (dec_le (space size c.read.result) c.args.n) (λ full. rests-refused _ _ _ _ _ c.requires.rest.0 (t.2 full)) (λ room. rests-made_look _ _ _ _ c.requires.rest.0 (t.3 (lt_of_not-le room))),
+      dite (dec_le (space size c.read.result) c.args.n) (λ full. rests-refused _ _ _ _ _ c.requires.rest.0 (t.3 full)) (λ room. rests-made_look _ _ _ _ c.requires.rest.0 (t.4 (lt_of_not-le room))),
       t.0.0,
       t.1 ∙ c.requires.rest.2,
     )
 
+pub returns-clause-shown : goal.returns-clause-shown
+returns-clause-shown g c = let range = c.args.self.now.range in (refused-sized _ c.args.self.now.size c.args.n 18446744073709551615 0 c.compare_exchange_with-word.result c.args.seat.now.me c.compare_exchange_with-word.new.seat.me c.read.result c.args.self.now.sized.1 (omega arith) range.1 c.read.ensures.within c.read.ensures.packs c.compare_exchange_with-word.ensures.2).2
+
 pub returns-clause-refused : goal.returns-clause-refused
-returns-clause-refused g c = let range = c.args.self.now.range in (refused-sized _ c.args.self.now.size c.args.n 18446744073709551615 0 c.compare_exchange_with-word.result c.args.seat.now.me c.compare_exchange_with-word.new.seat.me c.read.result c.args.self.now.sized.1 (omega arith) range.1 c.read.ensures.within c.read.ensures.packs c.compare_exchange_with-word.ensures.2).2
+returns-clause-refused g c = let range = c.args.self.now.range in (refused-sized _ c.args.self.now.size c.args.n 18446744073709551615 0 c.compare_exchange_with-word.result c.args.seat.now.me c.compare_exchange_with-word.new.seat.me c.read.result c.args.self.now.sized.1 (omega arith) range.1 c.read.ensures.within c.read.ensures.packs c.compare_exchange_with-word.ensures.2).3
 
 pub returns-clause-looked : goal.returns-clause-looked
-returns-clause-looked g c = let range = c.args.self.now.range in (refused-sized _ c.args.self.now.size c.args.n 18446744073709551615 0 c.compare_exchange_with-word.result c.args.seat.now.me c.compare_exchange_with-word.new.seat.me c.read.result c.args.self.now.sized.1 (omega arith) range.1 c.read.ensures.within c.read.ensures.packs c.compare_exchange_with-word.ensures.2).3
+returns-clause-looked g c = let range = c.args.self.now.range in (refused-sized _ c.args.self.now.size c.args.n 18446744073709551615 0 c.compare_exchange_with-word.result c.args.seat.now.me c.compare_exchange_with-word.new.seat.me c.read.result c.args.self.now.sized.1 (omega arith) range.1 c.read.ensures.within c.read.ensures.packs c.compare_exchange_with-word.ensures.2).4
