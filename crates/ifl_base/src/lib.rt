@@ -9,6 +9,7 @@
 mod fate;
 mod items;
 mod judged;
+pub mod laws;
 mod limits;
 mod memory;
 mod places;
