@@ -1,6 +1,6 @@
-ghost use Rattle.std.specs.Prelude.{◌≡◌, ◌≤◌, None, IsOkUnless, IfOk, IfSome};
+ghost use Rattle.std.specs.Prelude.{◌≡◌, ◌≤◌, Some, None, IsOkUnless, IfOk, IfSome};
 ghost use Rattle.ifl_outside.specs.Causes.{Rose};
-ghost use Rattle.ifl_outside.specs.Fetched.{IsWithin};
+ghost use Rattle.ifl_outside.specs.Fetched.{IsFetch, IsWithin};
 
 use crate::fault::HostError;
 use crate::host::{Fetch, Host};
@@ -49,7 +49,7 @@ fn room_for<F: OpenFile>(file: &F, limit: u64) -> usize
     }
 }
 
-/// What is left of a file, or that it is longer than the limit, or a fault.
+/// What the reader has left, or that it is more than the limit, or nothing where the reader fails.
 fn read_up_to<F: Read + OpenFile>(
     alloc: Global,
     file: &mut F,
@@ -57,6 +57,7 @@ fn read_up_to<F: Read + OpenFile>(
 ) -> Result<Option<Fetch>, HostError>
     ensures memory { IsOkUnless result HostError.Memory }
     ensures within { IfOk result (λ o. IfSome o (IsWithin limit)) }
+    ensures exact { IfOk result (λ o. IfSome o (λ found. IfSome (F.remaining file.old) (λ left. IsFetch (Some left) limit found))) }
 {
     let mut bytes = Vec::with_capacity(alloc, room_for(file, limit))?;
     let mut piece = [0u8; PIECE];

@@ -74,12 +74,18 @@ fn steady_host_never_fails(rt: HostRuntime) -> Result<(), Fail> {
     Ok(())
 }
 
+/// A folder that is empty.
+fn empty_folder(rt: &HostRuntime, folder: &str) -> Result<(), Fail> {
+    let _ = fs::remove_dir_all(rt, folder);
+    fs::create_dir(rt, folder)?;
+    Ok(())
+}
+
 #[test]
 fn real_host_reads_back_what_it_wrote(rt: HostRuntime) -> Result<(), Fail> {
     let alloc = rt.alloc();
     let folder = "ifl_outside_real_host";
-    let _ = fs::remove_dir_all(&rt, folder);
-    fs::create_dir(&rt, folder)?;
+    empty_folder(&rt, folder)?;
     let name = format!(in alloc; "{folder}/file")?;
     let absent = format!(in alloc; "{folder}/absent")?;
     {
@@ -97,12 +103,63 @@ fn real_host_reads_back_what_it_wrote(rt: HostRuntime) -> Result<(), Fail> {
             read_as(alloc, &mut host, absent.as_str(), 3)?.as_str(),
             "absent"
         );
+        assert_eq!(rt; host.print(alloc, b"printed by the real host\n"), Ok(()));
+    }
+    fs::remove_dir_all(&rt, folder)?;
+    Ok(())
+}
+
+/// A folder opens and cannot be read; a name below a file does not open, and not since it is not there.
+#[test]
+fn real_host_fails_at_what_is_no_file(rt: HostRuntime) -> Result<(), Fail> {
+    let alloc = rt.alloc();
+    let folder = "ifl_outside_no_file";
+    empty_folder(&rt, folder)?;
+    let name = format!(in alloc; "{folder}/file")?;
+    let below = format!(in alloc; "{folder}/file/below")?;
+    {
+        let mut host = RealHost::new(&rt);
+        assert_eq!(rt; host.write(alloc, name.as_str(), &[1]), Ok(()));
         assert_eq!(rt;
             read_as(alloc, &mut host, folder, 3)?.as_str(),
             "the host failed"
         );
         assert_eq!(rt; host.write(alloc, folder, &[1]), Err(HostError::Failed));
-        assert_eq!(rt; host.print(alloc, b""), Ok(()));
+        assert_eq!(rt;
+            read_as(alloc, &mut host, below.as_str(), 3)?.as_str(),
+            "the host failed"
+        );
+        assert_eq!(rt;
+            host.write(alloc, below.as_str(), &[1]),
+            Err(HostError::Failed)
+        );
+    }
+    fs::remove_dir_all(&rt, folder)?;
+    Ok(())
+}
+
+/// A file of two pieces and a part of a third.
+#[test]
+fn real_host_reads_a_file_in_pieces(rt: HostRuntime) -> Result<(), Fail> {
+    let alloc = rt.alloc();
+    let folder = "ifl_outside_pieces";
+    empty_folder(&rt, folder)?;
+    let name = format!(in alloc; "{folder}/file")?;
+    let mut bytes = Vec::new(alloc);
+    for i in 0..131_077u32 {
+        bytes.push((i % 251) as u8)?;
+    }
+    {
+        let mut host = RealHost::new(&rt);
+        assert_eq!(rt; host.write(alloc, name.as_str(), &bytes), Ok(()));
+        match host.read(alloc, name.as_str(), 131_077) {
+            Ok(Fetch::Bytes(read)) => assert!(rt; read.as_slice() == bytes.as_slice()),
+            _ => assert!(rt; false),
+        }
+        assert_eq!(rt;
+            read_as(alloc, &mut host, name.as_str(), 131_076)?.as_str(),
+            "too long"
+        );
     }
     fs::remove_dir_all(&rt, folder)?;
     Ok(())
