@@ -1,5 +1,6 @@
 -- A segment as a contract sees it, and the bytes of a list of segments.
 use Rattle.std.specs.Prelude.{ℕ, ◌+◌, ◌-◌, ◌<◌, ◌≤◌, ◌++◌, List, [], ◌∷◌, length, map}
+use Rattle.ifl_base.specs.declared.limits.TheConstants.{CHAIN_MAX, CLUSTER_BYTES}
 
 -- the part in use of a cluster: the cluster's number, where the part starts, and its bytes
 pub record Segment : Type 0 where
@@ -22,7 +23,7 @@ numbers_of = map (λ s. s.number)
 
 -- it has a byte, and lies within its cluster
 abbrev pub IsFilled : Segment → Type 0
-IsFilled s = (0 < length s.bytes) × (s.off + length s.bytes ≤ 2048)
+IsFilled s = (0 < length s.bytes) × (s.off + length s.bytes ≤ CLUSTER_BYTES)
 
 -- each segment has a byte, and lies within its cluster
 abbrev pub AreFilled : List Segment → Type 0
@@ -31,12 +32,12 @@ AreFilled (s ∷ ss) = IsFilled s × AreFilled ss
 
 -- what every chain keeps
 pub record IsChain (ss : List Segment) : Type 0 where
-  pub short : length ss ≤ 64
+  pub short : length ss ≤ CHAIN_MAX
   pub filled : AreFilled ss
 
 -- how many bytes of its cluster lie behind the segment
 abbrev pub room : Segment → ℕ
-room s = 2048 - (s.off + length s.bytes)
+room s = CLUSTER_BYTES - (s.off + length s.bytes)
 
 -- s with further bytes behind its own
 abbrev pub extended : Segment → List ℕ → Segment

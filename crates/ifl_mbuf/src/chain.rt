@@ -1,4 +1,5 @@
 ghost use Rattle.std.specs.Prelude.{◌≡◌, ◌+◌, ◌<◌, ◌≤◌, [], ◌∷◌, ◌++◌, length, take, drop, MatchOption};
+ghost use Rattle.ifl_base.specs.declared.limits.TheConstants.{CHAIN_MAX};
 ghost use Rattle.ifl_mbuf.specs.Segment.{IsChain, IsFilled, bytes_of, size};
 
 use crate::nodes::NodeList;
@@ -57,7 +58,7 @@ impl Chain {
 
     /// Appends a segment of at least one byte to a chain of fewer than 64.
     pub fn push(&mut self, seg: Seg)
-        requires room { length self.old < 64 }
+        requires room { length self.old < CHAIN_MAX }
         requires some { 0 < length seg.bytes }
         ensures { self.new ≡ self.old ++ seg ∷ [] }
     {
@@ -69,7 +70,7 @@ impl Chain {
 
     /// Appends all segments of `other`, in constant time. Both together have at most 64.
     pub fn cat(&mut self, other: Chain)
-        requires { length self.old + length other ≤ 64 }
+        requires { length self.old + length other ≤ CHAIN_MAX }
         ensures { self.new ≡ self.old ++ other }
     {
         let Chain { nodes, len } = other;
@@ -97,7 +98,7 @@ impl Chain {
 
     /// Puts a segment before the first.
     pub(crate) fn push_front(&mut self, seg: Seg)
-        requires room { length self.old < 64 }
+        requires room { length self.old < CHAIN_MAX }
         requires some { 0 < length seg.bytes }
         ensures { self.new ≡ seg ∷ self.old }
     {

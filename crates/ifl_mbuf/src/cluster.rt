@@ -17,12 +17,13 @@ pub struct Cluster {
 
 impl Model for Cluster {
     ghost use Rattle.std.specs.Prelude.{◌≡◌, ℕ, length};
+    ghost use Rattle.ifl_base.specs.declared.limits.TheConstants.{CLUSTER_BYTES};
 
     ghost Value = { ℕ };
 
     ghost view = { λ c. c.node.value.body.number };
 
-    ghost invariant = { λ c. length c.node.value.body.bytes ≡ 2048 };
+    ghost invariant = { λ c. length c.node.value.body.bytes ≡ CLUSTER_BYTES };
 }
 
 impl Cluster {

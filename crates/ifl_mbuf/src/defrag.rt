@@ -1,5 +1,6 @@
 // A chain's bytes laid anew into its first clusters.
 ghost use Rattle.std.specs.Prelude.{◌≡◌, ◌+◌, ◌<◌, [], ◌∷◌, ◌++◌, length};
+ghost use Rattle.ifl_base.specs.declared.limits.TheConstants.{CHAIN_MAX, CLUSTER_BYTES};
 ghost use Rattle.std.specs.Int.{div_ceil};
 ghost use Rattle.ifl_mbuf.specs.Defrag.{laid, IsDense, IsFilling};
 ghost use Rattle.ifl_mbuf.specs.Segment.{IsFilled, bytes_of, numbers_of, size};
@@ -25,7 +26,7 @@ impl Chain {
         ensures dense { IsDense self.new }
         ensures bytes { bytes_of self.new ≡ bytes_of self.old }
         ensures clusters { numbers_of self.new ++ result ≡ numbers_of self.old }
-        ensures segments { length self.new ≡ div_ceil (size self.old) 2048 }
+        ensures segments { length self.new ≡ div_ceil (size self.old) CLUSTER_BYTES }
     {
         let _at_most_64 = self.segments();
         let Some(mut last) = self.pop_front() else {
@@ -56,7 +57,7 @@ impl Filling {
     fn add(self, mut next: Seg) -> Filling
         requires filling { IsFilling self.full self.last }
         requires filled { IsFilled next }
-        requires short { length self.full + length self.spare < 63 }
+        requires short { length self.full + length self.spare + 1 < CHAIN_MAX }
         ensures filling { IsFilling result.full result.last }
         ensures bytes { bytes_of result.full ++ result.last.bytes
             ≡ (bytes_of self.full ++ self.last.bytes) ++ next.bytes }
@@ -85,7 +86,7 @@ impl Filling {
 /// The segment's bytes at the start of the first spare cluster, or of its own where none is spare.
 fn restart(mut seg: Seg, mut spare: Freed) -> (Seg, Freed)
     requires filled { IsFilled seg }
-    requires short { length spare < 64 }
+    requires short { length spare < CHAIN_MAX }
     ensures start { result.0.off ≡ 0 }
     ensures bytes { result.0.bytes ≡ seg.bytes }
     ensures clusters { result.0.number ∷ result.1 ≡ spare ++ seg.number ∷ [] }

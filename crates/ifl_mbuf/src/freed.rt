@@ -1,4 +1,5 @@
 ghost use Rattle.std.specs.Prelude.{◌≡◌, ◌+◌, ◌<◌, ◌≤◌, [], ◌∷◌, ◌++◌, length, MatchOption};
+ghost use Rattle.ifl_base.specs.declared.limits.TheConstants.{CHAIN_MAX};
 
 use crate::cluster::Cluster;
 use crate::nodes::NodeList;
@@ -37,14 +38,14 @@ impl Freed {
     /// The number of clusters, at most 64.
     pub fn count(&self) -> u32
         ensures value { result ≡ length self.now }
-        ensures small { result ≤ 64 }
+        ensures small { result ≤ CHAIN_MAX }
     {
         self.nodes.count()
     }
 
     /// Appends a cluster.
     pub(crate) fn push(&mut self, cluster: Cluster)
-        requires { length self.old < 64 }
+        requires { length self.old < CHAIN_MAX }
         ensures { self.new ≡ self.old ++ cluster ∷ [] }
     {
         let Cluster { node } = cluster;
@@ -62,7 +63,7 @@ impl Freed {
 
     /// Appends all clusters of `other` in order, by one write. Both together have at most 64.
     pub fn cat(&mut self, other: Freed)
-        requires { length self.old + length other ≤ 64 }
+        requires { length self.old + length other ≤ CHAIN_MAX }
         ensures { self.new ≡ self.old ++ other }
     {
         let Freed { nodes } = other;
@@ -71,7 +72,7 @@ impl Freed {
 
     /// Puts a cluster before the first.
     pub(crate) fn push_front(&mut self, cluster: Cluster)
-        requires { length self.old < 64 }
+        requires { length self.old < CHAIN_MAX }
         ensures { self.new ≡ cluster ∷ self.old }
     {
         let rest = replace(self, Freed::new());

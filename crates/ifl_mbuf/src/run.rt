@@ -9,6 +9,12 @@ use std::alloc::Global;
 use std::marker::{Model, Send, Sync};
 
 /// The nodes of a list, from the first to the last. With no node the two places mean nothing.
+///
+/// That no node is lost rests on what is written here and on no clause of another file. A `Run` is
+/// not `Drop`, so it cannot be let go, but only taken apart, which no other file can do: its fields
+/// are private. [`Run::split_first`] and [`Run::join`] hand all its nodes on, by their clauses, and
+/// [`Run::end`] takes only a run that has none, by its own condition. A taken out node is an
+/// [`Unboxed`], which is not `Drop` either, and becomes a box again.
 pub(crate) struct Run {
     first: Place,
     last: Place,
@@ -81,7 +87,8 @@ impl Run {
         }
     }
 
-    /// Ends a list that has no node left.
+    /// Ends a list that has no node left: the one way in which a `Run` goes. Its condition is what
+    /// keeps a list from losing nodes.
     pub(crate) fn end(self)
         requires { length self.nodes ≡ 0 }
     {

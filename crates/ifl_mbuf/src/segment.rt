@@ -1,4 +1,5 @@
-ghost use Rattle.std.specs.Prelude.{◌≡◌, ◌≤◌, length};
+ghost use Rattle.std.specs.Prelude.{◌≡◌, ◌+◌, ◌≤◌, length};
+ghost use Rattle.ifl_base.specs.declared.limits.TheConstants.{CLUSTER_BYTES};
 ghost use Rattle.ifl_mbuf.specs.Segment.{extended, room, Segment};
 ghost use Rattle.ifl_mbuf.specs.Trim.{behind, shortened};
 
@@ -31,7 +32,7 @@ impl Seg {
     /// Copies at most 2,048 bytes to the start of a cluster. The segment owns the cluster from then
     /// on.
     pub fn fill(cluster: Cluster, bytes: &[u8]) -> Seg
-        requires { length bytes.now ≤ 2048 }
+        requires { length bytes.now ≤ CLUSTER_BYTES }
         ensures { result ≡ record { number = cluster; off = 0; bytes = bytes.now } }
     {
         let Cluster { mut node } = cluster;
@@ -41,9 +42,10 @@ impl Seg {
         Seg { node }
     }
 
-    /// The bytes in use.
+    /// The bytes in use, which lie within the cluster.
     pub fn bytes(&self) -> &[u8]
-        ensures { result.now ≡ self.now.bytes }
+        ensures value { result.now ≡ self.now.bytes }
+        ensures within { self.now.off + length result.now ≤ CLUSTER_BYTES }
     {
         self.node.body.part()
     }
