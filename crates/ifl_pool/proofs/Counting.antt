@@ -1,12 +1,12 @@
 -- The counts of a history.
-use Rattle.std.proofs.Common.{◌≡◌, ℕ, suc, ◌+◌, ◌≤◌, Bool, true, false, cond, List, [], ◌∷◌, ◌++◌, length, sym, refl, ap, ◌∙◌, arith, length-append, append-nil, append_assoc}
+use Rattle.std.proofs.Common.{◌≡◌, ℕ, suc, ◌+◌, ◌≤◌, Bool, true, false, cond, List, [], ◌∷◌, ◌++◌, length, sym, refl, ap, ◌∙◌, subst, arith, length-append, append-nil, append_assoc}
 use Rattle.std.specs.Prelude.{◌||◌, ◌==◌, IsTrue}
 use Rattle.ifl_pool.specs.declared.history.Event.{Event}
 use Rattle.ifl_pool.specs.declared.history.Event.TheVariants.{Take, Give, Empty}
 use Rattle.ifl_pool.specs.declared.history.Entry.{Entry}
 use Rattle.ifl_pool.specs.declared.history.Counts.{Counts}
 use Rattle.ifl_pool.specs.History.{no_counts, counts_after, counts_sum, counts_from, counts_of, stock_of, IsLegalEvent, IsLegalFrom, IsPoolHistory, IsPrefix}
-use Rattle.ifl_pool.specs.Passes.{is_one_of, own_counts_from}
+use Rattle.ifl_pool.specs.Passes.{is_one_of, own_counts_from, AllBear, NoneBears}
 
 -- ---- prefixes
 
@@ -135,19 +135,9 @@ own_counts_from-append_numbers c d xs ys (e ∷ es) apart =
 
 -- ---- all entries, and none
 
--- each entry bears one of these numbers
-abbrev pub AllBear : List ℕ → List Entry → Type 0
-AllBear numbers [] = Unit {0}
-AllBear numbers (e ∷ es) = IsTrue (is_one_of numbers e.pass) × AllBear numbers es
-
 pub own_counts_from-all : (c : Counts) (numbers : List ℕ) (history : List Entry) → AllBear numbers history → own_counts_from c numbers history ≡ counts_from c history
 own_counts_from-all c numbers [] all = refl
 own_counts_from-all c numbers (e ∷ es) all = ap (λ (b : Bool). own_counts_from (cond b (counts_after e.event c) c) numbers es) all.0 ∙ own_counts_from-all (counts_after e.event c) numbers es all.1
-
--- no entry bears one of these numbers
-abbrev pub NoneBears : List ℕ → List Entry → Type 0
-NoneBears numbers [] = Unit {0}
-NoneBears numbers (e ∷ es) = (is_one_of numbers e.pass ≡ false) × NoneBears numbers es
 
 pub own_counts_from-none : (c : Counts) (numbers : List ℕ) (history : List Entry) → NoneBears numbers history → own_counts_from c numbers history ≡ c
 own_counts_from-none c numbers [] none = refl
@@ -156,3 +146,11 @@ own_counts_from-none c numbers (e ∷ es) none = ap (λ (b : Bool). own_counts_f
 pub none_bears_nothing : (history : List Entry) → NoneBears [] history
 none_bears_nothing [] = tt
 none_bears_nothing (e ∷ es) = (refl, none_bears_nothing es)
+
+none_bears_begun : (numbers : List ℕ) (xs ys : List Entry) → NoneBears numbers (xs ++ ys) → NoneBears numbers xs
+none_bears_begun numbers [] ys none = tt
+none_bears_begun numbers (x ∷ xs) ys none = (none.0, none_bears_begun numbers xs ys none.1)
+
+-- what no entry of a history bears, none of its beginning does
+pub none_bears_prefix : (numbers : List ℕ) (seen history : List Entry) → IsPrefix seen history → NoneBears numbers history → NoneBears numbers seen
+none_bears_prefix numbers seen history (rest, is) none = none_bears_begun numbers seen rest (subst (NoneBears numbers) (sym is) none)

@@ -13,7 +13,7 @@ use Rattle.ifl_pool.proofs.Counting.{counts_from-append_one, legal_last, history
 
 -- a pass of a full pool that has seen nothing
 pub first_pass : (size : ℕ) → IsPass size (new_known 0 PART)
-first_pass size = record { alive = omega arith; fits = omega arith; named = refl; legal = tt; counts = refl; whole = λ whole. refl }
+first_pass size = record { alive = omega arith; fits = omega arith; named = refl; legal = tt; counts = refl; whole = λ whole. refl; stands = λ whole. tt }
 
 -- a joined pass still stands for its own number
 pub named_after_join : (xs ys : List ℕ) (k : ℕ) → IsTrue (is_one_of xs k) → IsTrue (is_one_of (xs ++ ys) k)

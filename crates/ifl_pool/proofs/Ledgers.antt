@@ -11,10 +11,10 @@ use Rattle.ifl_pool.specs.declared.history.Entry.{Entry}
 use Rattle.ifl_pool.specs.declared.history.Counts.{Counts}
 use Rattle.ifl_pool.specs.declared.word.View.{View}
 use Rattle.ifl_pool.specs.History.{entry_of, no_counts, counts_after, counts_sum, counts_of, stock_of, IsLegalEvent, IsPoolHistory}
-use Rattle.ifl_pool.specs.Passes.{is_one_of, own_counts, IsPass, known_after_look, known_after_event}
+use Rattle.ifl_pool.specs.Passes.{is_one_of, own_counts, IsPass, IsNewTo, AllBear, NoneBears, known_after_look, known_after_event}
 use Rattle.ifl_pool.specs.Ledger.{one_if, stands_for, owns, part_of, IsStoodFor, IsViewOf, IsLedger, first_view, view_knowing, view_after_split, view_split_off, view_after_join, spent_view}
 use Rattle.ifl_pool.specs.Word.{Looked, Acted}
-use Rattle.ifl_pool.proofs.Counting.{prefix_refl, prefix_empty, prefix_more, prefix_whole, counts_from-append_one, own_counts_from-append_own, own_counts_from-append_other, legal_more, AreApart, own_counts_from-append_numbers, AllBear, own_counts_from-all, NoneBears, own_counts_from-none, none_bears_nothing}
+use Rattle.ifl_pool.proofs.Counting.{prefix_refl, prefix_empty, prefix_more, prefix_whole, counts_from-append_one, own_counts_from-append_own, own_counts_from-append_other, legal_more, AreApart, own_counts_from-append_numbers, own_counts_from-all, own_counts_from-none, none_bears_nothing, none_bears_prefix}
 use Rattle.ifl_pool.proofs.Sums.{get_elem?-append_one, sum_by-set_at, sum_by-set_same, at-le-sum_by, two-le-sum_by, sum_by-only, sum_by-le_at}
 use Rattle.std.proofs.lemmas.List.Sums.{sum_by_push}
 use Rattle.ifl_pool.proofs.Numbers.{one_if-true, true_if, false_if, spare_given, owns-first, owns-split, stands_for-join, owns-spent}
@@ -62,9 +62,9 @@ module _ (size : ℕ) (history : List Entry) (views : List View) (id : ℕ) (v :
       let one : stands_for k v ≡ 1 = one_if-true (is_one_of v.known.numbers k) own in
       false_if (is_one_of u.known.numbers k) (let z : stands_for k u ≡ 0 = omega arith in z)
 
-  -- the whole pass has counted the whole history
-  whole_counts : v.known.part ≡ PART → counts_of history ≡ v.known.counts
-  whole_counts whole = sym (own_counts_from-all no_counts v.known.numbers history (all_mine history ledger.stood)) ∙ mine.counts
+  -- the whole pass stands for the numbers of all entries for which some pass stands
+  whole_stands : v.known.part ≡ PART → (es : List Entry) → IsStoodFor views es → AllBear v.known.numbers es
+  whole_stands whole es stood = all_mine es stood
     where
       nothing : (k : ℕ) (j : ℕ) (u : View) → j ≢ id → get_elem? views j ≡ some u → stands_for k u ≡ 0
       nothing k j u differ there = let two = two-le-sum_by part_of views id j v u (λ same. differ (sym same)) at there in let parts = ledger.parts in
@@ -73,6 +73,10 @@ module _ (size : ℕ) (history : List Entry) (views : List View) (id : ℕ) (v :
       all_mine : (es : List Entry) → IsStoodFor views es → AllBear v.known.numbers es
       all_mine [] stood = tt
       all_mine (e ∷ es) stood = (true_if (is_one_of v.known.numbers e.pass) (let a = sum_by-only (stands_for e.pass) views id v at (nothing e.pass) in let b = stood.0 in omega arith), all_mine es stood.1)
+
+  -- the whole pass has counted the whole history
+  whole_counts : v.known.part ≡ PART → counts_of history ≡ v.known.counts
+  whole_counts whole = sym (own_counts_from-all no_counts v.known.numbers history (whole_stands whole history ledger.stood)) ∙ mine.counts
 
   -- a whole pass that has counted all that it has seen has seen all
   pub whole_saw : v.known.part ≡ PART → counts_of v.known.seen ≡ v.known.counts → history ≡ v.known.seen
@@ -92,14 +96,15 @@ module _ (size : ℕ) (history : List Entry) (views : List View) (id : ℕ) (v :
           parts = sum_by-set_same part_of views id v w at refl ∙ ledger.parts;
         }
 
-    knowing_pass : 0 < v.known.part → IsTrue (is_one_of v.known.numbers v.known.number) → (v.known.part ≡ PART → counts_of history' ≡ counts) → IsPass v.size (record v.known { seen = history'; counts = counts })
-    knowing_pass alive named whole = record {
+    knowing_pass : 0 < v.known.part → IsTrue (is_one_of v.known.numbers v.known.number) → (v.known.part ≡ PART → counts_of history' ≡ counts) → IsStoodFor views history' → IsPass v.size (record v.known { seen = history'; counts = counts })
+    knowing_pass alive named whole stood = record {
       alive = alive;
       fits = (let a = at-le-sum_by part_of views id v at in let b = ledger.parts in omega arith);
       named = named;
       legal = subst (λ (z : ℕ). IsPoolHistory z history') (sym (mine.alive alive).0) legal;
       counts = counted;
       whole = whole;
+      stands = λ all. whole_stands all history' stood;
     }
 
   pub look_keeps : IsLedger size history (set views id (view_knowing (known_after_look history v.known) v))
@@ -110,7 +115,7 @@ module _ (size : ℕ) (history : List Entry) (views : List View) (id : ℕ) (v :
     is = refl;
     saw = (refl, mine.seen);
     heard = mine.heard;
-    pass = knowing_pass history v.known.counts ledger.legal mine.counts alive named whole_counts;
+    pass = knowing_pass history v.known.counts ledger.legal mine.counts alive named whole_counts ledger.stood;
   }
 
   module _ (event : Event) (named : IsTrue (is_one_of v.known.numbers v.known.number)) (legal : IsLegalEvent size (stock_of size (counts_of history)) event) where
@@ -120,10 +125,14 @@ module _ (size : ℕ) (history : List Entry) (views : List View) (id : ℕ) (v :
     more_counted : own_counts v.known.numbers (history ++ entry_of v.known.number event ∷ []) ≡ counts_after event v.known.counts
     more_counted = own_counts_from-append_own no_counts v.known.numbers history (entry_of v.known.number event) named ∙ ap (counts_after event) mine.counts
 
+    more_stood : IsStoodFor views (history ++ entry_of v.known.number event ∷ [])
+    more_stood = let e : Entry = entry_of v.known.number event in
+        stood_more views history e ledger.stood (let a = at-le-sum_by (stands_for e.pass) views id v at in let b : stands_for e.pass v ≡ 1 = one_if-true (is_one_of v.known.numbers e.pass) named in omega arith)
+
     pub event_keeps : IsLedger size (history ++ entry_of v.known.number event ∷ []) (set views id (view_knowing (known_after_event (history ++ entry_of v.known.number event ∷ []) event v.known) v))
     event_keeps = let e : Entry = entry_of v.known.number event in
         knowing_keeps (history ++ e ∷ []) (counts_after event v.known.counts) more_legal more_counted
-        (stood_more views history e ledger.stood (let a = at-le-sum_by (stands_for e.pass) views id v at in let b : stands_for e.pass v ≡ 1 = one_if-true (is_one_of v.known.numbers e.pass) named in omega arith))
+        more_stood
         (λ j u differ there. let theirs = ledger.each j u there in record {
           seen = prefix_more u.known.seen history e theirs.seen;
           heard = prefix_more u.heard history e theirs.heard;
@@ -137,8 +146,18 @@ module _ (size : ℕ) (history : List Entry) (views : List View) (id : ℕ) (v :
       is = refl;
       did = (between, ap (λ (z : List Entry). known_after_event (z ++ e ∷ []) event v.known) (sym seen));
       pass = knowing_pass (history ++ e ∷ []) (counts_after event v.known.counts) more_legal more_counted alive named
-          (λ whole. counts_from-append_one no_counts history e ∙ ap (counts_after event) (whole_counts whole));
+          (λ whole. counts_from-append_one no_counts history e ∙ ap (counts_after event) (whole_counts whole)) more_stood;
     }
+
+  -- the number that a split gives away is a spare one, so that no pass stands for it
+  unnamed : v.known.number < v.stride → sum_by (stands_for (v.known.number + v.stride)) views ≡ 0
+  unnamed small = let k : ℕ = v.known.number + v.stride in let once = ledger.once k in let spare = spare_given v small in
+      let below = sum_by-le_at (owns k) (stands_for k) (λ u. omega arith) views id v at in omega arith
+
+  pub spare_tells : 0 < v.known.part → IsNewTo v.known (v.known.number + v.stride)
+  spare_tells alive = let k : ℕ = v.known.number + v.stride in let none = unnamed (mine.alive alive).1 in
+      let below = at-le-sum_by (stands_for k) views id v at in
+      (false_if (is_one_of v.known.numbers k) (let z : stands_for k v ≡ 0 = omega arith in z), none_bears_prefix (k ∷ []) v.known.seen history mine.seen (unused views k none history ledger.stood))
 
   pub split_keeps : 2 ≤ v.known.part → IsLedger size history (set views id (view_after_split v) ++ view_split_off v ∷ [])
   split_keeps two =
@@ -156,11 +175,6 @@ module _ (size : ℕ) (history : List Entry) (views : List View) (id : ℕ) (v :
         stood = stood_for_by views (vs ++ b ∷ []) history (λ k. (let x = sum_by_push (stands_for k) vs b in let y = sum_by-set_same (stands_for k) views id v a at refl in omega arith)) ledger.stood;
         parts = (let x = sum_by_push part_of vs b in let y = sum_by-set_at part_of views id v a at in let p = ledger.parts in omega arith);
       }
-    where
-      -- the new number is a spare one, so that no pass stands for it
-      unnamed : v.known.number < v.stride → sum_by (stands_for (v.known.number + v.stride)) views ≡ 0
-      unnamed small = let k : ℕ = v.known.number + v.stride in let once = ledger.once k in let spare = spare_given v small in
-          let below = sum_by-le_at (owns k) (stands_for k) (λ u. omega arith) views id v at in omega arith
 
   pub join_keeps : (other : ℕ) (w : View) → 0 < v.known.part → (other ≡ id → ⊥) → get_elem? (set views id (view_after_join v w)) other ≡ some w
       → IsLedger size history (set (set views id (view_after_join v w)) other spent_view)

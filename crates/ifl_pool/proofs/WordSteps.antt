@@ -1,7 +1,7 @@
 -- Each step on the word keeps its rule, and tells what it has to tell.
-use Rattle.std.proofs.Common.{◌≡◌, ℕ, ◌+◌, ◌-◌, ◌<◌, ◌≤◌, eqb, List, [], ◌∷◌, ◌++◌, set, get_or, sym, refl, ap, ◌∙◌, arith}
+use Rattle.std.proofs.Common.{◌≡◌, ℕ, zero, suc, ◌+◌, ◌-◌, ◌<◌, ◌≤◌, eqb, List, [], ◌∷◌, ◌++◌, set, get_or, sym, refl, ap, ◌∙◌, subst, arith}
 use Rattle.std.specs.Prelude.{IsTrue}
-use mathlib.Core.Option.{some, none, some-injective}
+use mathlib.Core.Option.{some, none, some-injective, some-ne-none}
 use mathlib.Core.Logic.{dite}
 use native.Mathlib.Decide.{ℕ_discrete}
 use lib.ListN.{get_elem?}
@@ -15,10 +15,10 @@ use Rattle.ifl_pool.specs.declared.history.Entry.{Entry}
 use Rattle.ifl_pool.specs.declared.word.View.{View}
 use Rattle.ifl_pool.specs.History.{entry_of, no_counts, counts_after, counts_of, stock_of, IsLegalEvent}
 use Rattle.ifl_pool.specs.Passes.{is_one_of, known_after_look, known_after_event}
-use Rattle.ifl_pool.specs.Ledger.{view_knowing, view_after_split, view_split_off, view_after_join, spent_view}
-use Rattle.ifl_pool.specs.Word.{IsCount, Looked, Acted, Mine, Found, FindStep, TakeStep, GiveStep, LookStep}
+use Rattle.ifl_pool.specs.Ledger.{IsLedger, view_knowing, view_after_split, view_split_off, view_after_join, spent_view}
+use Rattle.ifl_pool.specs.Word.{IsCount, Looked, Acted, Mine, Found, FindStep, TakeStep, GiveStep, LookStep, SpareStep}
 use Rattle.ifl_pool.proofs.Counting.{counts_from-append_one, history_within}
-use Rattle.ifl_pool.proofs.Ledgers.{whole_saw, look_keeps, look_tells, event_keeps, event_tells, split_keeps, join_keeps}
+use Rattle.ifl_pool.proofs.Ledgers.{whole_saw, look_keeps, look_tells, event_keeps, event_tells, spare_tells, split_keeps, join_keeps}
 
 -- the only word of a table
 word_of : (words : List ℕ) (x : ℕ) → words ≡ x ∷ [] → get_or words 0 0 ≡ x
@@ -90,6 +90,24 @@ module _ (size id : ℕ) (me : Mine) (alive : 0 < me.0.known.part) (named : IsTr
       (λ hit. let stock : stock_of size (counts_of rule.history) ≡ x = sym is ∙ hit in let r = event_step s rule at Give (x + 1) (omega arith) (omega arith) in
       (r.0, keeps, tt, r.1, ((λ _. r.2), (λ miss. absurd {A = Looked me.0 r.0} (miss hit)), refl)))
       (λ miss. let r = look_step s rule at in (r.0, keeps, tt, r.1, ((λ hit. absurd {A = Acted Give me.0 r.0} (miss hit)), (λ _. r.2), refl)))
+
+set_self : {A : Type 0} (xs : List A) (i : ℕ) (x : A) → get_elem? xs i ≡ some x → set xs i x ≡ xs
+set_self [] i x at = absurd (some-ne-none x (sym at))
+set_self (z ∷ xs) zero x at = ap (λ (w : _). w ∷ xs) (sym (some-injective z x at))
+set_self (z ∷ xs) (suc i) x at = ap (λ (ws : List _). z ∷ ws) (set_self xs i x at)
+
+pub spares : (slots size id : ℕ) (me : Mine) → 0 < me.0.known.part → Allows (IsCount size) slots id me 0 (λ x. x) (SpareStep (step slots 0 0 0 none) me)
+spares slots size id me alive s rule _ at _ = (
+  me.0,
+  keeps,
+  tt,
+  record {
+    history = rule.history;
+    word = set_word s.words _ (get_or s.words 0 0) rule.word ∙ ap (λ (z : ℕ). z ∷ []) (word_of s.words _ rule.word);
+    ledger = subst (IsLedger size rule.history) (sym (set_self s.views id me.0 at)) rule.ledger;
+  },
+  (refl, spare_tells size rule.history s.views id me.0 at rule.ledger alive),
+)
 
 pub splits : (size id : ℕ) (v : View) → 2 ≤ v.known.part → Splits (IsCount size) id v (view_after_split v) (view_split_off v)
 splits size id v two s rule at = record { history = rule.history; word = rule.word; ledger = split_keeps size rule.history s.views id v at rule.ledger two }

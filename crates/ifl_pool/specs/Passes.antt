@@ -12,6 +12,16 @@ abbrev pub is_one_of : List ℕ → ℕ → Bool
 is_one_of [] k = false
 is_one_of (x ∷ xs) k = if x == k then true else is_one_of xs k
 
+-- each entry bears one of these numbers
+abbrev pub AllBear : List ℕ → List Entry → Type 0
+AllBear numbers [] = Unit {0}
+AllBear numbers (e ∷ es) = IsTrue (is_one_of numbers e.pass) × AllBear numbers es
+
+-- no entry bears one of these numbers
+abbrev pub NoneBears : List ℕ → List Entry → Type 0
+NoneBears numbers [] = Unit {0}
+NoneBears numbers (e ∷ es) = (is_one_of numbers e.pass ≡ false) × NoneBears numbers es
+
 -- the events that bear one of these numbers, in a history that follows on earlier ones
 abbrev pub own_counts_from : Counts → List ℕ → List Entry → Counts
 own_counts_from c numbers [] = c
@@ -21,7 +31,8 @@ own_counts_from c numbers (e ∷ es) = own_counts_from (if is_one_of numbers e.p
 abbrev pub own_counts : List ℕ → List Entry → Counts
 own_counts numbers history = own_counts_from no_counts numbers history
 
--- what holds of each pass between calls: it has counted its own events, and the whole pass has counted all
+-- what holds of each pass between calls: it has counted its own events, and the whole pass stands for all numbers and
+-- has counted all events
 pub record IsPass (size : ℕ) (k : Known) : Type 0 where
   pub alive : 0 < k.part
   pub fits : k.part ≤ PART
@@ -29,10 +40,15 @@ pub record IsPass (size : ℕ) (k : Known) : Type 0 where
   pub legal : IsPoolHistory size k.seen
   pub counts : own_counts k.numbers k.seen ≡ k.counts
   pub whole : k.part ≡ PART → counts_of k.seen ≡ k.counts
+  pub stands : k.part ≡ PART → AllBear k.numbers k.seen
 
 -- a new pass has seen nothing and done nothing
 abbrev pub new_known : ℕ → ℕ → Known
 new_known number part = record { number = number; part = part; numbers = number ∷ []; seen = []; counts = no_counts }
+
+-- the number is none of the pass's, and no entry that the pass has seen bears it
+abbrev pub IsNewTo : Known → ℕ → Type 0
+IsNewTo k number = (is_one_of k.numbers number ≡ false) × NoneBears (number ∷ []) k.seen
 
 -- it has seen this history
 abbrev pub known_after_look : List Entry → Known → Known

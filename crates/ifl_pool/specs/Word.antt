@@ -1,5 +1,5 @@
 -- The rule of the word, and what each step on it tells the pass that makes it.
-use Rattle.std.specs.Prelude.{◌≡◌, ◌≢◌, ℕ, List, [], ◌∷◌}
+use Rattle.std.specs.Prelude.{◌≡◌, ◌≢◌, ℕ, ◌+◌, List, [], ◌∷◌}
 use Rattle.atomic_table.specs.Table.{State, Me, Step}
 use Rattle.atomic_table.specs.Seated.{TableId}
 use Rattle.atomic_table.specs.declared.shared.Seat.{Seat}
@@ -8,7 +8,7 @@ use Rattle.ifl_pool.specs.declared.history.Event.TheVariants.{Take, Give, Empty}
 use Rattle.ifl_pool.specs.declared.history.Entry.{Entry}
 use Rattle.ifl_pool.specs.declared.word.View.{View}
 use Rattle.ifl_pool.specs.History.{counts_of, stock_of, IsPrefix}
-use Rattle.ifl_pool.specs.Passes.{IsPass, Did, OnlySaw}
+use Rattle.ifl_pool.specs.Passes.{IsPass, Did, OnlySaw, IsNewTo}
 use Rattle.ifl_pool.specs.Ledger.{IsLedger, view_knowing}
 
 -- the word is what the pool holds after its history
@@ -62,3 +62,7 @@ GiveStep step old word new = (word ≡ step.first → Acted Give old.0 new.0) ×
 -- any other load
 abbrev pub LookStep : Step ℕ → Mine → ℕ → Mine → Type 0
 LookStep step old word new = Looked old.0 new.0 × (new.1 ≡ old.1)
+
+-- the load before a split: the pass stays as it is, and the number that it is to give away is new to it
+abbrev pub SpareStep : Step ℕ → Mine → ℕ → Mine → Type 0
+SpareStep step old word new = (new ≡ old) × IsNewTo old.0.known (old.0.known.number + old.0.stride)

@@ -36,7 +36,7 @@ impl ClosedPool {
         self.clusters.len() as u32
     }
 
-    /// The clusters that it holds, in the order in which they lay in the pool.
+    /// The clusters that it holds. Which they are and in what order they come is not said.
     pub fn into_clusters(self) -> Vec<Cluster>
         ensures { result.items ≡ self.clusters }
     {

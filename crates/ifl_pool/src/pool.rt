@@ -1,7 +1,7 @@
 //! The pool and its passes.
 ghost use Rattle.std.specs.Prelude.{◌≡◌, ◌+◌, ◌/◌, ◌≤◌, length, MatchOption, IfOk, ⊤};
 ghost use Rattle.ifl_pool.specs.declared.history.Event.TheVariants.{Take, Give, Empty};
-ghost use Rattle.ifl_pool.specs.Passes.{IsPass, Did, Joined, new_known, known_after_split};
+ghost use Rattle.ifl_pool.specs.Passes.{IsNewTo, IsPass, Did, Joined, new_known, known_after_split};
 ghost use Rattle.ifl_pool.specs.Pools.{IsClosedPool};
 
 use crate::closed::ClosedPool;
@@ -83,7 +83,8 @@ impl Pool {
         Ok((pool, PoolPass { seat, moved }))
     }
 
-    /// Gives half of the pass's part, rounded down, to a new pass, which has counted nothing.
+    /// Gives half of the pass's part, rounded down, to a new pass, which has counted nothing. Its number is new: the
+    /// pass does not stand for it, and has seen no event that bears it.
     pub fn split(&self, pass: &mut PoolPass) -> PoolPass
         requires own { pass.old.pool ≡ self.now }
         requires part { 2 ≤ pass.old.known.part }
@@ -91,6 +92,7 @@ impl Pool {
         ensures lawful { IsPass pass.new.pool.size pass.new.known × IsPass result.pool.size result.known }
         ensures left { pass.new.known ≡ known_after_split pass.old.known }
         ensures new { result.known ≡ new_known result.known.number (pass.old.known.part / 2) }
+        ensures fresh { IsNewTo pass.old.known result.known.number }
     {
         let seat = self.word.split(&mut pass.seat);
         let moved = self.queue.another::<Forks>(&mut pass.moved);

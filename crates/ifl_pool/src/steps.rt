@@ -38,6 +38,15 @@ impl Play<u64, View> for Looks {
     ghost then = { LookStep };
 }
 
+/// The load before a split.
+pub struct Spares;
+
+impl Play<u64, View> for Spares {
+    ghost use Rattle.ifl_pool.specs.Word.{SpareStep};
+
+    ghost then = { SpareStep };
+}
+
 /// A pass is split.
 pub struct Halves;
 

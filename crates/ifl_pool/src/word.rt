@@ -2,14 +2,14 @@
 ghost use Rattle.std.specs.Prelude.{◌≡◌, ◌≤◌, [], IfOk};
 ghost use Rattle.std.specs.Bool.{OnTrue, OnFalse};
 ghost use Rattle.ifl_pool.specs.declared.history.Event.TheVariants.{Take, Give, Empty};
-ghost use Rattle.ifl_pool.specs.Passes.{IsPass, Did, OnlySaw, Joined};
+ghost use Rattle.ifl_pool.specs.Passes.{IsPass, Did, OnlySaw, Joined, IsNewTo};
 ghost use Rattle.ifl_pool.specs.Ledger.{first_view, view_after_split, view_split_off};
 ghost use Rattle.ifl_pool.specs.Pools.{IsLastCount};
 ghost use Rattle.ifl_pool.specs.Word.{IsSameSeat};
 
 use crate::history::Entry;
 use crate::known::Known;
-use crate::steps::{Finds, Gives, Halves, Joins, Looks, Takes};
+use crate::steps::{Finds, Gives, Halves, Joins, Looks, Spares, Takes};
 use atomic_table::{Seat, Table, TableRule};
 use crossbeam_utils::Backoff;
 use ifl_base::{NoMemory, PART};
@@ -149,7 +149,9 @@ impl Word {
         ensures own { (seat.new.table_id ≡ seat.old.table_id) × (result.table_id ≡ seat.old.table_id) }
         ensures left { seat.new.me ≡ (view_after_split seat.old.me.0, seat.old.me.1) }
         ensures right { result.me ≡ (view_split_off seat.old.me.0, []) }
+        ensures fresh { IsNewTo seat.old.me.0.known result.me.0.known.number }
     {
+        self.table.shared.load::<Spares>(seat, 0);
         self.table.shared.split_seat::<Halves>(seat)
     }
 
