@@ -13,3 +13,5 @@ pub mod Counting
 pub mod Replaying
 pub mod Queueing
 pub mod OneReading
+pub mod Flags
+pub mod Owning

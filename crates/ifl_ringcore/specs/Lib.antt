@@ -15,3 +15,5 @@ pub mod Texts
 pub mod Trace
 pub mod Replayed
 pub mod Queue
+pub mod FlagSet
+pub mod Owners

@@ -3,19 +3,23 @@
 
 ghost use Rattle.std.specs.Prelude.{◌≡◌, ◌≤◌, ◌<◌, ◌+◌, ◌-◌, ◌*◌, ◌%◌, ◌^◌, ◌++◌, ◌∷◌, [], ◌↔◌, ℕ, Bool, not, List, length, None, IsSome};
 ghost use Rattle.ifl_base.specs.declared.word.Flag.TheVariants.{Idle, Busy};
-ghost use Rattle.ifl_base.specs.Space.{space};
+ghost use Rattle.ifl_base.specs.FlagAfter.{flag_after};
+ghost use Rattle.ifl_base.specs.Space.{advanced, space};
 ghost use Rattle.ifl_base.specs.Word.{number_of};
 ghost use Rattle.ifl_ringcore.specs.declared.event.Event.{Event};
 ghost use Rattle.ifl_ringcore.specs.declared.history.Entry.{Entry};
 ghost use Rattle.ifl_ringcore.specs.declared.history.Meaning.{Meaning};
 ghost use Rattle.ifl_ringcore.specs.declared.history.Step.{Step};
+ghost use Rattle.ifl_ringcore.specs.declared.owner.Owner.{Owner};
 ghost use Rattle.ifl_ringcore.specs.declared.schedule.Schedule.{Schedule};
 ghost use Rattle.ifl_ringcore.specs.Conditions.{IsAllowed};
 ghost use Rattle.ifl_ringcore.specs.Counters.{counters_among, counters_of, plus};
 ghost use Rattle.ifl_ringcore.specs.Effects.{effect};
 ghost use Rattle.ifl_ringcore.specs.Events.{seat_of, step_of, items_of};
+ghost use Rattle.ifl_ringcore.specs.FlagSet.{IsFlagSet};
 ghost use Rattle.ifl_ringcore.specs.History.{state_after, IsLegalHistory, AreSeatsBelow};
 ghost use Rattle.ifl_ringcore.specs.Invariant.{RingInvariant, Cover};
+ghost use Rattle.ifl_ringcore.specs.Owners.{IsOwner};
 ghost use Rattle.ifl_ringcore.specs.Queue.{no_items, queue_after};
 ghost use Rattle.ifl_ringcore.specs.Schedule.{IsRing, IsScheduleText, IsFirstBadLine};
 ghost use Rattle.ifl_ringcore.specs.State.{RingState, first_state, ring_word};
@@ -63,6 +67,24 @@ pub fn found_word_is_the_residues()
 /// The word's space is the size, less one, less what is reserved and not released.
 pub fn space_is_what_is_free()
     ensures { (size : ℕ) (st : RingState) → 4 ≤ size → RingInvariant size st → space size (ring_word size st) ≡ size - 1 - (st.reserved - st.released) }
+{}
+
+/// Between any two steps each place of a ring has one owner: nobody, a seat that has reserved it, the ring, or the consumer.
+pub fn each_place_has_one_owner()
+    ensures { (size place : ℕ) (st : RingState) → RingInvariant size st → place < size → (o : Owner) × IsOwner size st place o × ((other : Owner) → IsOwner size st place other → other ≡ o) }
+{}
+
+/// To move one of the word's places on by n is to count n more: each place stays its number modulo the size.
+pub fn places_follow_the_numbers()
+    ensures head { (size n : ℕ) (st : RingState) → advanced size (ring_word size st).head n ≡ (ring_word size (record st { reserved = st.reserved + n })).head }
+    ensures tail { (size n : ℕ) (st : RingState) → advanced size (ring_word size st).tail n ≡ (ring_word size (record st { published = st.published + n })).tail }
+    ensures cidx { (size n : ℕ) (st : RingState) → advanced size (ring_word size st).cidx n ≡ (ring_word size (record st { released = st.released + n })).cidx }
+{}
+
+/// The flag that a consumer takes from a word, with n more released in it, is what the numbers say: idle where nothing is
+/// left, abdicated where its budget is spent and others are about to publish, and else busy.
+pub fn flag_follows_the_numbers()
+    ensures { (size n : ℕ) (st : RingState) (over : Bool) → RingInvariant size st → st.released + n ≤ st.published → IsFlagSet (record st { released = st.released + n }) over (flag_after (ring_word size (record st { released = st.released + n })) over) }
 {}
 
 /// What some seats count and what the others count is what the history counts.
