@@ -5,7 +5,7 @@ use native.Mathlib.Decide.{ℕ_discrete}
 use Rattle.ifl_ringcore.specs.declared.history.Entry.{Entry}
 use Rattle.ifl_ring.specs.declared.view.Known.{Known}
 use Rattle.ifl_ringcore.specs.History.{own}
-use Rattle.ifl_ring.specs.Law.{has, Has, saw}
+use Rattle.ifl_ring.specs.Law.{has, Has, AreAmong, AreOf, IsWholeAmong, saw}
 use Rattle.std.proofs.Common.{inl, inr}
 use Rattle.ifl_ring.specs.Tells.{Moved, Made, of_all, events, Went}
 use Rattle.ifl_ring.proofs.Closing.{append_none, own_append}
@@ -14,7 +14,7 @@ by_test : (b : Bool) (x : Entry) (all xs ys : List Entry) → all ≡ xs ++ ys �
 by_test true x all xs ys e = ap (λ (z : List Entry). x ∷ z) e
 by_test false x all xs ys e = e
 
-of_all_append : (ks : List ℕ) (xs ys : List Entry) → of_all ks (xs ++ ys) ≡ of_all ks xs ++ of_all ks ys
+pub of_all_append : (ks : List ℕ) (xs ys : List Entry) → of_all ks (xs ++ ys) ≡ of_all ks xs ++ of_all ks ys
 of_all_append ks [] ys = refl
 of_all_append ks (x ∷ xs) ys = by_test (has x.seat ks) x (of_all ks (xs ++ ys)) (of_all ks xs) (of_all ks ys) (of_all_append ks xs ys)
 
@@ -27,13 +27,21 @@ tail_own k x xs h = dite (ℕ_discrete x.seat k)
     (λ ne. rw (ne_eqb x.seat k ne) at h)
 
 -- where no entry of a number stands, none of all does
-none_of_all : (ks : List ℕ) (xs : List Entry) → ((k : ℕ) → Has k ks → own k xs ≡ []) → of_all ks xs ≡ []
+pub none_of_all : (ks : List ℕ) (xs : List Entry) → ((k : ℕ) → Has k ks → own k xs ≡ []) → of_all ks xs ≡ []
 none_of_all ks [] h = refl
 none_of_all ks (x ∷ xs) h = let rec = none_of_all ks xs (λ k t. tail_own k x xs (h k t)) in
     elim (has x.seat ks) as (λ b. (has x.seat ks ≡ b) → cond b (x ∷ of_all ks xs) (of_all ks xs) ≡ []) [
       | true ↦ λ e. head_own x xs (h x.seat e) (x ∷ of_all ks xs ≡ [])
       | false ↦ λ e. rec
     ] refl
+
+among_more : (stands : List ℕ) (es : List Entry) (e : Entry) → AreAmong stands es → Has e.seat stands → AreAmong stands (es ++ e ∷ [])
+among_more stands [] e all last = (last, tt)
+among_more stands (x ∷ xs) e all last = (all.0, among_more stands xs e all.1 last)
+
+of_append : (k : ℕ) (xs ys : List Entry) → AreOf k xs → AreOf k ys → AreOf k (xs ++ ys)
+of_append k [] ys a b = b
+of_append k (x ∷ xs) ys a b = (a.0, of_append k xs ys a.1 b)
 
 pub made_went : (size : ℕ) (v : Known) (e : Entry) (w : Known) → Has e.seat v.stands → Made size v e w → Went size v (e ∷ []) w
 made_went size v e w own' m =
@@ -46,6 +54,8 @@ made_went size v e w own' m =
       is = m.is ∙ ap (λ (z : List Entry). saw z v) (sym seen_is);
       begins = (m.between ++ e ∷ [], sym (append_assoc v.seen m.between (e ∷ [])) ∙ sym seen_is);
       made = ap events m.is ∙ mine;
+      mine = (m.mine, tt);
+      whole = subst (λ (z : Known). IsWholeAmong z z.seen) (sym m.is) (λ all. among_more v.stands (v.seen ++ m.between) e (m.whole all) own');
       legal = m.legal;
       good = m.good;
     }
@@ -55,6 +65,8 @@ went_on_to size u v w es fs a b = record {
   is = b.is ∙ ap (λ (z : Known). saw w.seen z) a.is;
   begins = (a.begins.0 ++ b.begins.0, sym (append_assoc u.seen a.begins.0 b.begins.0) ∙ ap (λ (z : List Entry). z ++ b.begins.0) a.begins.1 ∙ b.begins.1);
   made = b.made ∙ ap (λ (z : List Entry). z ++ fs) a.made ∙ append_assoc (events u) es fs;
+  mine = of_append u.number es fs a.mine (subst (λ (z : Known). AreOf z.number fs) a.is b.mine);
+  whole = b.whole;
   legal = b.legal;
   good = b.good;
 }

@@ -14,8 +14,7 @@ use Rattle.ifl_ring.specs.declared.place.Key.{Key}
 use Rattle.ifl_ringcore.specs.State.{Reservation, Consumer, Role, reservation_of, consumer_of, role_of, free, first_state}
 use Rattle.ifl_ringcore.specs.History.{state_after, own}
 use Rattle.ifl_ring.specs.Law.{Has, parts, Lawful, IsAtRest}
-use Rattle.ifl_ring.proofs.Steps.{bare}
-use Rattle.ifl_ring.proofs.Seats.{part_le}
+use Rattle.ifl_ring.proofs.Wholes.{bare, others_spent, stood_by}
 use Rattle.ifl_base.specs.declared.limits.TheConstants.{PART}
 
 pub append_none : {A : Type 0} (xs ys : List A) → xs ++ ys ≡ xs → ys ≡ []
@@ -44,13 +43,6 @@ no_drains : (o : Option Consumer) → ((k : ℕ) → consumer_of k o ≡ None) �
 no_drains None h = refl
 no_drains (Some d) h = absurd (let f : Some d ≡ None = rw (eq-eqb d.seat d.seat refl) at (h d.seat) in cc)
 
-two_parts : {O : Type 0} (vs : List (View O)) (i j : ℕ) (v w : View O) → i ≢ j → get_elem? vs i ≡ some v → get_elem? vs j ≡ some w → v.known.part + w.known.part ≤ parts vs
-two_parts {O = O} [] i j v w ne a b = absurd (some-ne-none v (sym a))
-two_parts {O = O} (x ∷ xs) zero zero v w ne a b = absurd (ne refl)
-two_parts {O = O} (x ∷ xs) zero (suc j) v w ne a b = let e : x.known.part ≡ v.known.part = ap (λ (z : View O). z.known.part) (some-injective x v a) in let t = part_le xs j w b in omega arith
-two_parts {O = O} (x ∷ xs) (suc i) zero v w ne a b = let e : x.known.part ≡ w.known.part = ap (λ (z : View O). z.known.part) (some-injective x w b) in let t = part_le xs i v a in omega arith
-two_parts {O = O} (x ∷ xs) (suc i) (suc j) v w ne a b = let t = two_parts xs i j v w (λ e. ne (ap suc e)) a b in omega arith
-
 there : {A : Type 0} (l : List A) (i : ℕ) → i < length l → (a : A) × (get_elem? l i ≡ some a)
 there [] i h = absurd (omega arith)
 there (x ∷ xs) zero h = (x, refl)
@@ -64,7 +56,7 @@ module _ {I D O : Type 0} (meaning : I → Meaning) (origin : D → O) (settled 
       → (l.log ≡ v.known.seen) × (l.now.reservations ≡ []) × (l.now.consumer ≡ None) × ((k : ℕ) → (own k l.log ≡ []) ⊎ Has k v.known.stands)
   closes key s l id v at rest still all =
       let t = l.each id v at in let nm = t.named rest.named in
-      let spent' : (k : ℕ) (x : View O) → k ≢ id → get_elem? s.views k ≡ some x → x.known.stands ≡ [] = λ k x ne e. let b = two_parts s.views k id x v ne e at in let c = l.all_parts in (l.each k x e).spent (omega arith) in
+      let spent' = others_spent meaning origin settled full stands_for key s l id v at all in
       let idle : (k : ℕ) → role_of k l.now ≡ free = λ k. dite (dec_le (length s.views) k)
       (λ out. (l.fresh k out).1)
       (λ inside. dite (ℕ_discrete k id)
@@ -83,11 +75,5 @@ module _ {I D O : Type 0} (meaning : I → Meaning) (origin : D → O) (settled 
         sym seen'.1 ∙ ap (λ (z : List Entry). v.known.seen ++ z) no_rest ∙ simp append-nil,
         no_holds l.now.reservations (λ k. ap (λ (z : Role). z.0) (idle k)),
         no_drains l.now.consumer (λ k. ap (λ (z : Role). z.1) (idle k)),
-        λ k. dite (dec_le (length s.views) k)
-            (λ out. inl (l.fresh k out).0)
-            (λ inside. ⊎_elim (λ none_. inl none_)
-            (λ q. dite (ℕ_discrete (l.keeper k) id)
-            (λ here. let x_is : q.0 ≡ v = some-injective q.0 v (sym q.1 ∙ (ap (get_elem? s.views) here ∙ at)) in inr (subst (λ (z : View O). Has k z.known.stands) x_is q.2))
-            (λ away. bare k q.0.known.stands (spent' (l.keeper k) q.0 away q.1) q.2))
-            (l.stood k (lt_of_not-le inside))),
+        stood_by meaning origin settled full stands_for key s l id v at all,
       )

@@ -95,7 +95,7 @@ module _ {I D O : Type 0} (meaning : I → Meaning) (origin : D → O) (settled 
       let may : IsAllowed size now j (Elected b xs) = (t.1 ∙ ap (λ (z : ℕ). Some (reservation j now.published z)) (sym long), flag) in
       let next : new ≡ pack (ring_word size (effect now j (Elected b xs))) = more ∙ ap (λ (z : RingWord). pack record z { tail = advanced size z.tail k; flag = Busy }) (sym same)
       ∙ ap (λ (z : ℕ). pack record (ring_word size now) { tail = z; flag = Busy }) (mod-add-mod now.published size k) ∙ ap (λ (z : ℕ). pack record (ring_word size now) { tail = (now.published + z) % size; flag = Busy }) (sym long) in
-      let mn = made_now meaning origin settled full stands_for key s l id v e at still has is may in
+      let mn = made_now meaning origin settled full stands_for key s l id v e at still has refl is may in
       let now' : RingState = effect now j (Elected b xs) in
       let end : state_after first_state log' ≡ now' = state_after-append first_state l.log e ∙ ap (λ (z : RingState). effect z j (Elected b xs)) l.is in
       let pub' = cover-without size now j k g t.1 in

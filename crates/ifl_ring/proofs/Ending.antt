@@ -26,10 +26,11 @@ use Rattle.ifl_ring.specs.declared.place.Outlet.{Outlet}
 use Rattle.ifl_ring.specs.declared.place.Place.TheVariants.{Item, Vacant, Post, Away, Told, Parting}
 use Rattle.ifl_ring.specs.declared.view.View.{View}
 use Rattle.ifl_ring.specs.Acts.{item_in}
-use Rattle.ifl_ring.specs.Closed.{items_lying, IsEnded, IsClosed, IsHandedBack, AreAmong, left_after, released_after}
-use Rattle.ifl_ring.specs.Law.{has, Has, HasRoom, Posted, Lawful, IsAtRest, Rests}
+use Rattle.ifl_ring.specs.Closed.{items_lying, IsEnded, IsClosed, IsHandedBack, left_after, released_after}
+use Rattle.ifl_ring.specs.Law.{AreAmong, has, Has, HasRoom, Posted, Lawful, IsAtRest, Rests}
 use Rattle.ifl_ring.proofs.Closing.{closes}
 use Rattle.ifl_ring.proofs.Reserving.{word_is}
+use Rattle.ifl_ring.proofs.Wholes.{among}
 
 module _ {I D : Type 0} where
   item_in-append : (p : Place I D) (xs ys : List I) → item_in p (xs ++ ys) ≡ item_in p xs ++ ys
@@ -127,19 +128,6 @@ module _ {A : Type 0} (size c : ℕ) (xs : List A) where
       (λ before. let h : j < size - f = lt_of_not-le before in
       let there : (f + j) % size ≡ f + j = mod-eq_of_lt (omega arith) in
       get_elem-before front (take f xs) j (omega arith) ∙ get_elem-take (size - f) j (drop f xs) h ∙ get_elem-drop f j xs ∙ ap (get_elem? xs) (sym there ∙ turn))
-
-own_behind : (k : ℕ) (e : Entry) (es : List Entry) → own k (e ∷ es) ≡ [] → own k es ≡ []
-own_behind k e es none_ = dite (ℕ_discrete e.seat k)
-    (λ is. absurd (let f : e ∷ own k es ≡ [] = rw (eq-eqb e.seat k is) at none_ in cc))
-    (λ ne. let f : own k es ≡ [] = rw (ne_eqb e.seat k ne) at none_ in f)
-
--- a history all of whose seats are among those that are stood for
-among : (stands : List ℕ) (es : List Entry) → ((k : ℕ) → (own k es ≡ []) ⊎ Has k stands) → AreAmong stands es
-among stands [] h = tt
-among stands (e ∷ es) h = (
-  ⊎_elim (λ (none_ : own e.seat (e ∷ es) ≡ []). absurd (let f : e ∷ own e.seat es ≡ [] = rw (eq-eqb e.seat e.seat refl) at none_ in cc)) (λ (in_ : Has e.seat stands). in_) (h e.seat),
-  among stands es (λ k. ⊎_elim (λ (none_ : own k (e ∷ es) ≡ []). inl (own_behind k e es none_)) (λ (in_ : Has k stands). inr in_) (h k)),
-)
 
 -- what is left of a table when a ring is closed
 pub record Ends {I D O : Type 0} (meaning : I → Meaning) (origin : D → O) (settled full : D → Type 0) (stands_for : D → List Meaning → Type 0) (size : ℕ) (o : O) (history : List Entry) (stands : List ℕ) (words : List ℕ) (slots : List (Place I D)) : Type 0 where

@@ -1,3 +1,4 @@
+pub mod Wholes
 pub mod Steps
 pub mod Rests
 pub mod Rising
@@ -27,3 +28,5 @@ pub mod Tallying
 pub mod Claiming
 pub mod Enqueueing
 pub mod Ending
+pub mod Merging
+pub mod Owned

@@ -210,7 +210,7 @@ module _ {I D O : Type 0} (meaning : I → Meaning) (origin : D → O) (settled 
       let next_is = leaves_as now j n f ne in
       let next : new ≡ pack (ring_word size (effect now j (parting f n))) = more ∙ ap (λ (z : RingWord). pack record z { cidx = advanced size z.cidx n; flag = f }) (sym same)
       ∙ ap (λ (z : ℕ). pack record (ring_word size now) { cidx = z; flag = f }) (mod-add-mod now.released size n) ∙ ap (λ (z : RingState). pack (ring_word size z)) (sym next_is) in
-      let mn = made_now meaning origin settled full stands_for key s l id v e at p.still p.named is may in
+      let mn = made_now meaning origin settled full stands_for key s l id v e at p.still p.named refl is may in
       let end' : state_after first_state log' ≡ record now { released = now.released + n; flag = f; consumer = None } = state_after-append first_state l.log e ∙ ap (λ (z : RingState). effect z j (parting f n)) l.is ∙ next_is in
       let got : role_of j (state_after first_state log') ≡ free = ap (role_of j) end' ∙ (λ i. ((h.role i).0, None)) in
       let slots_is = size_is meaning origin settled full stands_for key s l slots wide in
@@ -244,7 +244,7 @@ module _ {I D O : Type 0} (meaning : I → Meaning) (origin : D → O) (settled 
       let e : Entry = entry j x (Advance n) in let log' : List Entry = l.log ++ e ∷ [] in let w' : View O = moved log' v in
       let now' : RingState = effect now j (Advance n) in
       let next : new ≡ pack (ring_word size now') = more ∙ ap (λ (z : RingWord). pack record z { cidx = advanced size z.cidx n }) (sym same) ∙ ap (λ (z : ℕ). pack record (ring_word size now) { cidx = z }) (mod-add-mod now.released size n) in
-      let mn = made_now meaning origin settled full stands_for key s l id v e at p.still p.named is may in
+      let mn = made_now meaning origin settled full stands_for key s l id v e at p.still p.named refl is may in
       let end' : state_after first_state log' ≡ now' = state_after-append first_state l.log e ∙ ap (λ (z : RingState). effect z j (Advance n)) l.is in
       let slots_is = size_is meaning origin settled full stands_for key s l slots wide in
       let P : List (ℕ × Place I D) = packed size now.released n p.items p.outlet in let back : Act (Place I D) = all_back size now.released n p.items p.outlet in

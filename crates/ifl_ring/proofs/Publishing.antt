@@ -104,7 +104,7 @@ module _ {I D O : Type 0} (meaning : I → Meaning) (origin : D → O) (settled 
       let may : IsAllowed size now j (Behind xs) = (t.1 ∙ ap (λ (z : ℕ). Some (reservation j now.published z)) (sym long), flag) in
       let next : new ≡ pack (ring_word size (effect now j (Behind xs))) = more ∙ ap (λ (z : RingWord). pack record z { tail = advanced size z.tail k }) (sym same)
       ∙ ap (λ (z : ℕ). pack record (ring_word size now) { tail = z }) (mod-add-mod now.published size k) ∙ ap (λ (z : ℕ). pack record (ring_word size now) { tail = (now.published + z) % size }) (sym long) in
-      let mn = made_now meaning origin settled full stands_for key s l id v e at still has is may in
+      let mn = made_now meaning origin settled full stands_for key s l id v e at still has refl is may in
       let end : state_after first_state log' ≡ effect now j (Behind xs) = state_after-append first_state l.log e ∙ ap (λ (z : RingState). effect z j (Behind xs)) l.is in
       let pub' = cover-without size now j k g t.1 in
       let nm = (l.each id v at).named has in

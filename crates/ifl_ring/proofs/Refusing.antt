@@ -49,7 +49,7 @@ module _ {I D O : Type 0} (meaning : I → Meaning) (origin : D → O) (settled 
       let w : RingWord = ring_word size now in
       dite (dec_le (space size w) k)
       (λ crowded. let e : Entry = entry v.known.number x (Refuse k) in let w' : View O = moved (l.log ++ e ∷ []) v in
-      let may : IsAllowed size now v.known.number (Refuse k) = (one, no_drain, no_hold, omega arith) in let mn = made_now meaning origin settled full stands_for key s l id v e at still rests.named is may in
+      let may : IsAllowed size now v.known.number (Refuse k) = (one, no_drain, no_hold, omega arith) in let mn = made_now meaning origin settled full stands_for key s l id v e at still rests.named refl is may in
       let end : state_after first_state (l.log ++ e ∷ []) ≡ now = state_after-append first_state l.log e ∙ ap (λ (z : RingState). effect z v.known.number (Refuse k)) l.is in (
         w',
         keeps_act,
@@ -66,7 +66,7 @@ module _ {I D O : Type 0} (meaning : I → Meaning) (origin : D → O) (settled 
         ),
       ))
       (λ free'. let e : Entry = entry v.known.number x Look in let w' : View O = moved (l.log ++ e ∷ []) v in
-      let mn = made_now meaning origin settled full stands_for key s l id v e at still rests.named is tt in
+      let mn = made_now meaning origin settled full stands_for key s l id v e at still rests.named refl is tt in
       let end : state_after first_state (l.log ++ e ∷ []) ≡ now = state_after-append first_state l.log e ∙ l.is in let less : k < space size w = lt_of_not-le free' in (
         w',
         keeps_act,

@@ -90,7 +90,7 @@ module _ {I D O : Type 0} (meaning : I → Meaning) (origin : D → O) (settled 
       let no_hold : reservation_of v.known.number now.reservations ≡ None = ap (λ z. z.0) role' in let no_drain = ap (λ z. z.1) role' in
       let may : IsAllowed size now v.known.number (Reserve k) = (one, no_drain, no_hold, fit) in
       let next : new ≡ pack (ring_word size (effect now v.known.number (Reserve k))) = more ∙ ap (λ (z : RingWord). pack record z { head = advanced size z.head k }) (sym same) ∙ ap (λ (z : ℕ). pack record (ring_word size now) { head = z }) (mod-add-mod now.reserved size k) in
-      let mn = made_now meaning origin settled full stands_for key s l id v e at still rests.named is may in
+      let mn = made_now meaning origin settled full stands_for key s l id v e at still rests.named refl is may in
       let end : state_after first_state log' ≡ effect now v.known.number (Reserve k) = state_after-append first_state l.log e ∙ ap (λ (z : RingState). effect z v.known.number (Reserve k)) l.is in
       let now' : RingState = effect now v.known.number (Reserve k) in
       let got : role_of v.known.number (state_after first_state log') ≡ (Some (reservation v.known.number now.reserved k), None) = ap (role_of v.known.number) end ∙ (λ i. (reservation_of-append v.known.number now.reserved k now.reservations no_hold i, no_drain i)) in

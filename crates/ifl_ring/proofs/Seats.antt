@@ -18,9 +18,10 @@ use Rattle.ifl_ringcore.specs.State.{RingState, role_of, free, first_state}
 use Rattle.ifl_ringcore.specs.History.{state_after, own}
 use Rattle.ifl_ringcore.specs.Invariant.{RingInvariant}
 use Rattle.ifl_base.specs.declared.limits.TheConstants.{PART}
-use Rattle.ifl_ring.specs.Law.{has, Has, Kept, Remembers, Sits, AreDisjoint, parts, moved, half, cut_left, cut_right, joined_known, past, both, gone, Lawful, IsAtRest}
+use Rattle.ifl_ring.specs.Law.{has, Has, IsWholeAmong, Kept, Remembers, Sits, AreDisjoint, parts, moved, half, cut_left, cut_right, joined_known, past, both, gone, Lawful, IsAtRest}
 use Rattle.ifl_ring.specs.Tells.{Names, Recalls, Meets, Joined, christened, met}
-use Rattle.ifl_ring.proofs.Steps.{parts_set, each_set, in_range, bare, size_is}
+use Rattle.ifl_ring.proofs.Steps.{parts_set, each_set, in_range, size_is}
+use Rattle.ifl_ring.proofs.Wholes.{bare, part_le, whole_log}
 
 at_end : {A : Type 0} (l : List A) (a b : A) (j : ℕ) → get_elem? (l ++ a ∷ []) j ≡ some b → (get_elem? l j ≡ some b) ⊎ ((j ≡ length l) × (a ≡ b))
 at_end [] a b zero e = inr (refl, some-injective a b e)
@@ -31,11 +32,6 @@ at_end (x ∷ xs) a b (suc j) e = ⊎_elim (λ t. inl t) (λ t. inr (ap suc t.0,
 parts_append : {O : Type 0} (vs : List (View O)) (w : View O) → parts (vs ++ w ∷ []) ≡ parts vs + w.known.part
 parts_append [] w = omega arith
 parts_append (x ∷ xs) w = let t = parts_append xs w in omega arith
-
-pub part_le : {O : Type 0} (vs : List (View O)) (i : ℕ) (v : View O) → get_elem? vs i ≡ some v → v.known.part ≤ parts vs
-part_le {O = O} [] i v e = absurd (some-ne-none v (sym e))
-part_le {O = O} (x ∷ xs) zero v e = let a : x.known.part ≡ v.known.part = ap (λ (z : View O). z.known.part) (some-injective x v e) in omega arith
-part_le {O = O} (x ∷ xs) (suc i) v e = let t = part_le xs i v e in omega arith
 
 halves : (n : ℕ) → half n ≤ n
 halves n = omega arith
@@ -228,7 +224,7 @@ module _ {I D O : Type 0} (meaning : I → Meaning) (origin : D → O) (settled 
       } in
       let size_eq = size_is meaning origin settled full stands_for key s l slots wide in
       let role2 : role_of v.known.number (state_after first_state l.log) ≡ role_of v.known.number (state_after first_state v.known.seen) = subst (λ (z : ℕ). role_of z (state_after first_state l.log) ≡ role_of z (state_after first_state v.known.seen)) (sym n.0) (sym role' ∙ n.1) in
-      let told' : Meets key.size v.told v.known w.known = record { is = refl; recalls = recalls l.log l.keeper id v.told t.told; apart = t.apart; within = (let a = part_le s.views id v at in let b = l.all_parts in omega arith); role = role2; legal = l.legal; good = subst (RingInvariant key.size) (sym l.is) l.good } in (
+      let told' : Meets key.size v.told v.known w.known = record { is = refl; recalls = recalls l.log l.keeper id v.told t.told; apart = t.apart; within = (let a = part_le s.views id v at in let b = l.all_parts in omega arith); role = role2; whole = whole_log meaning origin settled full stands_for key s l id v at; legal = l.legal; good = subst (RingInvariant key.size) (sym l.is) l.good } in (
         w,
         keeps_act,
         tt,
@@ -337,6 +333,7 @@ met_joined {O = O} size v w m x e t = let u : Meets size (past v ∷ past w ∷ 
   second_whole = u.recalls.2.1;
   apart = u.apart.0.0;
   within = subst (λ (z : Known). z.part ≤ PART) (sym u.is) u.within;
+  whole = subst (λ (z : Known). IsWholeAmong z x.seen) (sym u.is) u.whole;
   legal = u.legal;
   good = u.good;
 }

@@ -22,9 +22,10 @@ use Rattle.ifl_ringcore.specs.Effects.{effect}
 use Rattle.ifl_ringcore.specs.Conditions.{IsAllowed}
 use Rattle.ifl_ringcore.specs.Invariant.{RingInvariant}
 use Rattle.ifl_base.specs.Word.{pack}
-use Rattle.ifl_ring.specs.Law.{Has, Begins, Complete, Kept, Remembers, Sits, parts, saw, moved, Shelf, Lawful}
+use Rattle.ifl_ring.specs.Law.{Has, AreAmong, Begins, Complete, Kept, Remembers, Sits, parts, saw, moved, Shelf, Lawful}
 use Rattle.ifl_ringcore.proofs.Histories.{state_after-append, legal-append, own-append_other}
 use Rattle.ifl_ringcore.proofs.Keeping.{invariant-effect, role_of-effect}
+use Rattle.ifl_ring.proofs.Wholes.{bare, whole_log}
 
 pub begins_more : (log seen : List Entry) (e : Entry) → Begins log seen → Begins (log ++ e ∷ []) seen
 begins_more log seen e b = (b.0 ++ e ∷ [], sym (append_assoc seen b.0 (e ∷ [])) ∙ ap (λ (z : List Entry). z ++ e ∷ []) b.1)
@@ -51,10 +52,6 @@ others_sit o log now next keeper j v e t ne ne' same = record {
   told = remembers_more log keeper j v.told e ne t.told;
   apart = t.apart;
 }
-
-pub bare : {A : Type 0} (k : ℕ) (xs : List ℕ) → xs ≡ [] → Has k xs → A
-bare k [] h t = absurd (let f : false ≡ true = t in cc)
-bare k (x ∷ xs) h t = absurd (let g = h in cc)
 
 -- the stepping seat has seen the whole history
 mine_sits : {O : Type 0} (o : O) (log : List Entry) (now next : RingState) (keeper : ℕ → ℕ) (id : ℕ) (v : View O) → Sits o log now keeper id v → Has v.known.number v.known.stands → (log' : List Entry) → next ≡ state_after first_state log' → Sits o log' next keeper id (moved log' v)
@@ -130,15 +127,17 @@ module _ {I D O : Type 0} (meaning : I → Meaning) (origin : D → O) (settled 
   size_is key s l slots w = let a = l.shelf.wide in omega arith
 
   pub made_now : (key : Key O) (s : State (Place I D) (View O)) (l : Law key s) (id : ℕ) (v : View O) (e : Entry)
-      → get_elem? s.views id ≡ some v → v.told ≡ [] → Has v.known.number v.known.stands → e.found ≡ pack (ring_word key.size l.now) → IsAllowed key.size l.now e.seat e.event → (m : Made key.size v.known e (saw (l.log ++ e ∷ []) v.known)) × (state_after first_state (v.known.seen ++ m.between) ≡ l.now)
-  made_now key s l id v e at still has found may = let t = l.each id v at in let n = t.named has in let whole' = t.seen.1 in
+      → get_elem? s.views id ≡ some v → v.told ≡ [] → Has v.known.number v.known.stands → e.seat ≡ v.known.number → e.found ≡ pack (ring_word key.size l.now) → IsAllowed key.size l.now e.seat e.event → (m : Made key.size v.known e (saw (l.log ++ e ∷ []) v.known)) × (state_after first_state (v.known.seen ++ m.between) ≡ l.now)
+  made_now key s l id v e at still has by found may = let t = l.each id v at in let n = t.named has in let whole' = t.seen.1 in
       let log' : List Entry = l.log ++ e ∷ [] in let now' : RingState = effect l.now e.seat e.event in
       let is' : state_after first_state log' ≡ now' = state_after-append first_state l.log e ∙ ap (λ (z : RingState). effect z e.seat e.event) l.is in (
         record {
           between = t.seen.0;
+          mine = by;
           is = ap (λ (z : List Entry). saw (z ++ e ∷ []) v.known) (sym whole');
           found = found ∙ ap (λ (z : RingState). pack (ring_word key.size z)) (sym l.is ∙ ap (state_after first_state) (sym whole'));
           apart = λ k h. ap (own k) whole' ∙ t.complete still k h;
+          whole = λ all. subst (AreAmong v.known.stands) (sym whole') (whole_log meaning origin settled full stands_for key s l id v at all);
           role = ap (λ (z : List Entry). role_of v.known.number (state_after first_state z)) whole' ∙ ap (role_of v.known.number) l.is ∙ (ap (λ (z : ℕ). role_of z l.now) n.0 ∙ n.1 ∙ ap (λ (z : ℕ). role_of z (state_after first_state v.known.seen)) (sym n.0));
           legal = legal-append key.size first_state l.log e l.legal (found ∙ ap (λ (z : RingState). pack (ring_word key.size z)) (sym l.is)) (subst (λ (z : RingState). IsAllowed key.size z e.seat e.event) (sym l.is) may);
           good = subst (RingInvariant key.size) (sym is') (invariant-effect key.size l.now e.seat e.event l.good may);
@@ -147,8 +146,8 @@ module _ {I D O : Type 0} (meaning : I → Meaning) (origin : D → O) (settled 
       )
 
   pub made : (key : Key O) (s : State (Place I D) (View O)) (l : Law key s) (id : ℕ) (v : View O) (e : Entry)
-      → get_elem? s.views id ≡ some v → v.told ≡ [] → Has v.known.number v.known.stands → e.found ≡ pack (ring_word key.size l.now) → IsAllowed key.size l.now e.seat e.event → Made key.size v.known e (saw (l.log ++ e ∷ []) v.known)
-  made key s l id v e at still has found may = (made_now key s l id v e at still has found may).0
+      → get_elem? s.views id ≡ some v → v.told ≡ [] → Has v.known.number v.known.stands → e.seat ≡ v.known.number → e.found ≡ pack (ring_word key.size l.now) → IsAllowed key.size l.now e.seat e.event → Made key.size v.known e (saw (l.log ++ e ∷ []) v.known)
+  made key s l id v e at still has by found may = (made_now key s l id v e at still has by found may).0
 
   -- what a step needs, where the word becomes y
   abbrev pub Goes : (key : Key O) → State (Place I D) (View O) → ℕ → Me (Place I D) (View O) → (Me (Place I D) (View O) → Type 0) → ℕ → Type 0
@@ -160,7 +159,7 @@ module _ {I D O : Type 0} (meaning : I → Meaning) (origin : D → O) (settled 
   pub look_at : (key : Key O) (s : State (Place I D) (View O)) (l : Law key s) (slots id : ℕ) (me : Me (Place I D) (View O)) (st : TableStep (Place I D)) → me.0.told ≡ [] → Has me.0.known.number me.0.known.stands → length s.homes ≡ slots → get_elem? s.views id ≡ some me.0 → st.slots ≡ slots
       → Goes key s id me (looked st me (get_or s.words 0 0)) (get_or s.words 0 0)
   look_at key s l slots id me st still has wide at sl = let x : ℕ = get_or s.words 0 0 in let v : View O = me.0 in let is : x ≡ pack (ring_word key.size l.now) = word_of key s l in
-      let e : Entry = entry v.known.number x Look in let w : View O = moved (l.log ++ e ∷ []) v in let m = made key s l id v e at still has is tt in
+      let e : Entry = entry v.known.number x Look in let w : View O = moved (l.log ++ e ∷ []) v in let m = made key s l id v e at still has refl is tt in
       let end : state_after first_state (l.log ++ e ∷ []) ≡ l.now = state_after-append first_state l.log e ∙ l.is in (
         w,
         keeps_act,

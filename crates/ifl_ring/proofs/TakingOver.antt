@@ -67,7 +67,7 @@ module _ {I D O : Type 0} (meaning : I → Meaning) (origin : D → O) (settled 
       let may : IsAllowed size now j (TakeOver b) = (no_mine, no_hold, lost', sym calm) in
       let now' : RingState = effect now j (TakeOver b) in
       let next : new ≡ pack (ring_word size now') = more ∙ ap (λ (z : RingWord). pack record z { flag = Busy }) (sym same) in
-      let mn = made_now meaning origin settled full stands_for key s l id v e at still rests.named is may in
+      let mn = made_now meaning origin settled full stands_for key s l id v e at still rests.named refl is may in
       let end : state_after first_state log' ≡ now' = state_after-append first_state l.log e ∙ ap (λ (z : RingState). effect z j (TakeOver b)) l.is in
       let reach_is : reach now ≡ now.released = ap (reach_of now.released) no_drain in
       let n : ℕ = now.published - now.released in let all : now.released + n ≡ now.published = omega arith in

@@ -19,7 +19,7 @@ use Rattle.ifl_ring.proofs.Closing.{append_none, own_append}
 use Rattle.ifl_ring.proofs.Seats.{only}
 use Rattle.ifl_ring.proofs.Trails.{bool_cases, counters_among-quiet, counters_among-skip, trail-made}
 
-has-append : (k : ℕ) (xs ys : List ℕ) → has k (xs ++ ys) ≡ (has k xs || has k ys)
+pub has-append : (k : ℕ) (xs ys : List ℕ) → has k (xs ++ ys) ≡ (has k xs || has k ys)
 has-append k [] ys = refl
 has-append k (x ∷ xs) ys = ⊎_elim (λ (t : eqb x k ≡ true). rw t refl) (λ (f : eqb x k ≡ false). rw f (has-append k xs ys)) (bool_cases (eqb x k))
 

@@ -48,7 +48,7 @@ trail-made size v e w mine m = let p : ℕ → Bool = λ k. has k v.stands in le
     )
 
 pub trail-none : (size : ℕ) (v : Known) → IsLived size v → Trails size v [] nothing_counted v
-trail-none size v (legal, good) = (record { is = refl; begins = ([], simp append-nil); made = simp append-nil; legal = legal; good = good }, sym (plus-nothing (tally_of v)))
+trail-none size v (legal, good, whole) = (record { is = refl; begins = ([], simp append-nil); made = simp append-nil; mine = tt; whole = whole; legal = legal; good = good }, sym (plus-nothing (tally_of v)))
 
 pub trail-more : (size : ℕ) (u v w : Known) (es fs : List Entry) (x y : Counters) → Trails size u es x v → Trails size v fs y w → Trails size u (es ++ fs) (plus x y) w
 trail-more size u v w es fs x y a b = (went_on_to size u v w es fs a.0 b.0, b.1 ∙ ap (λ (z : Counters). plus z y) a.1 ∙ plus-assoc (tally_of u) x y)
@@ -58,7 +58,10 @@ pub trail-after : (size : ℕ) (u v w : Known) (es fs : List Entry) (y : Counter
 trail-after size u v w es fs y a b = subst (λ (z : Counters). Trails size u (es ++ fs) z w) (nothing-plus y) (trail-more size u v w es fs nothing_counted y a b)
 
 pub lived : (size : ℕ) (v : Known) (es : List Entry) (x : Counters) (w : Known) → Trails size v es x w → IsLived size w
-lived size v es x w t = (t.0.legal, t.0.good)
+lived size v es x w t = (t.0.legal, t.0.good, t.0.whole)
+
+pub lived-made : (size : ℕ) (v : Known) (e : Entry) (w : Known) → Has e.seat v.stands → Made size v e w → IsLived size w
+lived-made size v e w mine m = lived size v (e ∷ []) _ w (trail-made size v e w mine m)
 
 -- looks
 pub looks-append : (es fs : List Entry) → AreLooks es → AreLooks fs → AreLooks (es ++ fs)

@@ -4,7 +4,7 @@ use Rattle.ifl_base.specs.declared.word.Flag.{Flag}
 use Rattle.ifl_base.specs.declared.word.Flag.TheVariants.{Idle, Busy, Stalled, Abdicated}
 use Rattle.ifl_base.specs.declared.word.RingWord.{RingWord}
 use Rattle.ifl_base.specs.Space.{space}
-use Rattle.ifl_base.specs.Word.{pack}
+use Rattle.ifl_base.specs.Word.{pack, IsWithin}
 use Rattle.ifl_ringcore.specs.declared.history.Entry.{Entry}
 use Rattle.ifl_ringcore.specs.declared.history.Meaning.{Meaning}
 use Rattle.ifl_ringcore.specs.declared.history.Step.{Step}
@@ -136,7 +136,7 @@ abbrev pub IsEnqueued : ℕ → ℕ → Bool → ℕ → List Meaning → Enqueu
 IsEnqueued size budget abdicate n xs enqueued.Behind es = (publishing es ≡ Behind xs ∷ []) × IsSent n budget abdicate xs enqueued.Behind es
 IsEnqueued size budget abdicate n xs enqueued.Abdicated es = (publishing es ≡ Abdicating xs ∷ []) × IsSent n budget abdicate xs enqueued.Abdicated es
 IsEnqueued size budget abdicate n xs (enqueued.Drained left total) es = (publishing es ≡ Elected budget xs ∷ []) × IsSent n budget abdicate xs (enqueued.Drained left total) es
-IsEnqueued size budget abdicate n xs (enqueued.NoBuffers seen) es = (publishing es ≡ []) × IsRefused n seen es × (space size seen ≤ n)
+IsEnqueued size budget abdicate n xs (enqueued.NoBuffers seen) es = (publishing es ≡ []) × IsRefused n seen es × (space size seen ≤ n) × IsWithin size seen
 
 -- where the items are afterwards
 abbrev pub AreHandedOver : {I : Type 0} → Enqueued → List I → List I → Type 0

@@ -10,7 +10,6 @@ use Rattle.ifl_ringcore.specs.Invariant.{RingInvariant}
 use Rattle.ifl_ring.specs.declared.place.Place.{Place}
 use Rattle.ifl_ring.specs.declared.view.View.{View}
 use Rattle.ifl_ring.specs.Acts.{item_in}
-use Rattle.ifl_ring.specs.Law.{Has}
 
 -- how many places the ring had, all that was done with it, and the items that are left
 pub record ClosedState (I : Type 0) : Type 0 where
@@ -45,11 +44,6 @@ pub record IsHandedBack {D O : Type 0} (origin : D → O) (settled full : D → 
   pub origin_is : origin d ≡ o
   pub stands : stands_for d (released_after history)
   pub stalled : (state_after first_state history).flag ≡ Stalled → full d
-
--- each entry bears one of these numbers
-abbrev pub AreAmong : List ℕ → List Entry → Type 0
-AreAmong stands [] = Unit {0}
-AreAmong stands (e ∷ es) = Has e.seat stands × AreAmong stands es
 
 -- the history that a seat had seen last
 abbrev pub last_seen : {O : Type 0} → List (View O) → List Entry

@@ -37,6 +37,20 @@ has k (x ∷ xs) = eqb x k || has k xs
 abbrev pub Has : ℕ → List ℕ → Type 0
 Has k xs = has k xs ≡ true
 
+-- each entry bears one of these numbers
+abbrev pub AreAmong : List ℕ → List Entry → Type 0
+AreAmong stands [] = Unit {0}
+AreAmong stands (e ∷ es) = Has e.seat stands × AreAmong stands es
+
+-- each entry bears this number
+abbrev pub AreOf : ℕ → List Entry → Type 0
+AreOf number [] = Unit {0}
+AreOf number (e ∷ es) = (e.seat ≡ number) × AreOf number es
+
+-- a seat with all parts stands for the numbers of all entries
+abbrev pub IsWholeAmong : Known → List Entry → Type 0
+IsWholeAmong v es = v.part ≡ PART → AreAmong v.stands es
+
 abbrev pub Begins : List Entry → List Entry → Type 0
 Begins log seen = (rest : List Entry) × (seen ++ rest ≡ log)
 

@@ -10,3 +10,5 @@ pub mod Calls
 pub mod Trails
 pub mod Publishing
 pub mod Closed
+pub mod Merges
+pub mod Owned

@@ -23,7 +23,7 @@ use Rattle.ifl_ringcore.specs.Invariant.{reach_of, RingInvariant}
 use Rattle.ifl_ringcore.specs.History.{state_after, IsLegalHistory, own}
 use Rattle.ifl_base.specs.Word.{pack}
 use Rattle.ifl_base.specs.Space.{space, advanced}
-use Rattle.ifl_ring.specs.Law.{has, Has, saw, Begins, Complete, joined_known, HasRoom, AreApart, AreDisjoint}
+use Rattle.ifl_ring.specs.Law.{has, Has, AreOf, IsWholeAmong, saw, Begins, Complete, joined_known, HasRoom, AreApart, AreDisjoint}
 use Rattle.ifl_base.specs.declared.limits.TheConstants.{PART}
 use Rattle.ifl_ring.specs.declared.view.Past.{Past}
 use Rattle.ifl_ring.specs.Calls.{parting}
@@ -34,9 +34,11 @@ entry k n e = record { seat = k; found = n; event = e }
 -- the seat saw all that came between, and then made this event
 pub record Made (size : ℕ) (v : Known) (e : Entry) (w : Known) : Type 0 where
   pub between : List Entry
+  pub mine : e.seat ≡ v.number
   pub is : w ≡ saw ((v.seen ++ between) ++ e ∷ []) v
   pub found : e.found ≡ pack (ring_word size (state_after first_state (v.seen ++ between)))
   pub apart : (k : ℕ) → Has k v.stands → own k (v.seen ++ between) ≡ own k v.seen
+  pub whole : IsWholeAmong v (v.seen ++ between)
   pub role : role_of v.number (state_after first_state (v.seen ++ between)) ≡ role_of v.number (state_after first_state v.seen)
   pub legal : IsLegalHistory size first_state w.seen
   pub good : RingInvariant size (state_after first_state w.seen)
@@ -148,10 +150,11 @@ pub record Meets (size : ℕ) (told : List Past) (v w : Known) : Type 0 where
   pub apart : AreApart told
   pub within : v.part ≤ PART
   pub role : role_of w.number (state_after first_state w.seen) ≡ role_of v.number (state_after first_state v.seen)
+  pub whole : IsWholeAmong v w.seen
   pub legal : IsLegalHistory size first_state w.seen
   pub good : RingInvariant size (state_after first_state w.seen)
 
--- one seat stands for the numbers of both, and both histories begin what it has seen
+-- one seat stands for the numbers of both, and both histories begin what it has seen; with all parts it stands for all
 pub record Joined (size : ℕ) (v w x : Known) : Type 0 where
   pub is : x ≡ saw x.seen (joined_known v w)
   pub first : Begins x.seen v.seen
@@ -160,6 +163,7 @@ pub record Joined (size : ℕ) (v w x : Known) : Type 0 where
   pub second_whole : Complete x.seen w.stands w.seen
   pub apart : AreDisjoint v.stands w.stands
   pub within : x.part ≤ PART
+  pub whole : IsWholeAmong x x.seen
   pub legal : IsLegalHistory size first_state x.seen
   pub good : RingInvariant size (state_after first_state x.seen)
 
@@ -239,11 +243,14 @@ of_all stands (e ∷ es) = cond (has e.seat stands) (e ∷ of_all stands es) (of
 abbrev pub events : Known → List Entry
 events v = of_all v.stands v.seen
 
--- what a call does to a seat: it has seen more, and made just these events
+-- what a call does to a seat: it has seen more, and made just these events, which bear its own number; with all parts it
+-- stands for the numbers of all that it has seen
 pub record Went (size : ℕ) (v : Known) (es : List Entry) (w : Known) : Type 0 where
   pub is : w ≡ saw w.seen v
   pub begins : Begins w.seen v.seen
   pub made : events w ≡ events v ++ es
+  pub mine : AreOf v.number es
+  pub whole : IsWholeAmong w w.seen
   pub legal : IsLegalHistory size first_state w.seen
   pub good : RingInvariant size (state_after first_state w.seen)
 

@@ -8,12 +8,13 @@ use Rattle.ifl_ringcore.specs.Invariant.{RingInvariant}
 use Rattle.ifl_ringcore.specs.State.{first_state}
 use Rattle.ifl_ring.specs.declared.view.Known.{Known}
 use Rattle.ifl_ring.specs.Calls.{AreLooks, parting}
+use Rattle.ifl_ring.specs.Law.{IsWholeAmong}
 use Rattle.ifl_ring.specs.Tally.{Counts}
 use Rattle.ifl_ring.specs.Tells.{Went}
 
--- the seat has seen a legal history
+-- the seat has seen a legal history, and with all parts it stands for all numbers in it
 abbrev pub IsLived : ℕ → Known → Type 0
-IsLived size v = IsLegalHistory size first_state v.seen × RingInvariant size (state_after first_state v.seen)
+IsLived size v = IsLegalHistory size first_state v.seen × RingInvariant size (state_after first_state v.seen) × IsWholeAmong v v.seen
 
 -- the seat made just these entries, which count so much
 abbrev pub Trails : ℕ → Known → List Entry → Counters → Known → Type 0

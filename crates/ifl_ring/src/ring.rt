@@ -1,15 +1,18 @@
 //! The ring and its seats.
-ghost use Rattle.std.specs.Prelude.{◌≡◌, ◌≤◌, [], length, map, IfOk, IfErr};
+ghost use Rattle.std.specs.Prelude.{◌≡◌, ◌≤◌, [], ◌∷◌, length, map, IfOk, IfErr};
 ghost use Rattle.std.specs.VecDeque.{deque_capacity};
 ghost use Rattle.ifl_base.specs.declared.limits.TheConstants.{MAX_BATCH};
-ghost use Rattle.ifl_ring.specs.Calls.{AreHandedOver, IsChecked, IsEnqueued};
-ghost use Rattle.ifl_ring.specs.Law.{left_known, right_known, first_known};
+ghost use Rattle.ifl_ring.specs.Calls.{AreHandedOver, IsChecked, IsEnqueued, publishing};
+ghost use Rattle.ifl_ring.specs.Law.{AreAmong, left_known, right_known, first_known};
 ghost use Rattle.ifl_ring.specs.Rings.{IsFaultOf};
 ghost use Rattle.ifl_ring.specs.Tally.{tally_of};
-ghost use Rattle.ifl_ringcore.specs.Counters.{capped, counters_of};
-ghost use Rattle.ifl_ring.specs.Tells.{Looked, Names, Joined, Went};
+ghost use Rattle.ifl_ringcore.specs.Counters.{capped, counters_of, plus};
+ghost use Rattle.ifl_base.specs.Word.{pack};
+ghost use Rattle.ifl_ringcore.specs.declared.history.Step.TheVariants.{Look};
+ghost use Rattle.ifl_ring.specs.Merges.{IsMerge};
+ghost use Rattle.ifl_ring.specs.Tells.{Looked, Names, Joined, Went, entry, events};
 ghost use Rattle.ifl_base.specs.declared.limits.TheConstants.{PART};
-ghost use Rattle.ifl_ring.specs.Closed.{AreAmong, IsEnded, IsHandedBack, left_after};
+ghost use Rattle.ifl_ring.specs.Closed.{IsEnded, IsHandedBack, left_after};
 ghost use Rattle.ifl_ringcore.specs.State.{first_state};
 
 use crate::answers::{Checked, Enqueued, RingFault};
@@ -147,11 +150,14 @@ impl<D: Drainer> Ring<D> {
     }
 
     /// Ends the other seat: its part and its numbers are added to those of this one, which has seen from then on
-    /// all that either had seen.
+    /// all that either had seen. The entries of both seats are merged, each seat's in their order, and what they counted
+    /// adds up.
     pub fn join(&self, seat: &mut Seat<D>, other: Seat<D>)
         requires own { (seat.old.table ≡ self.now.table) × (other.table ≡ self.now.table) }
         ensures own { seat.new.table ≡ seat.old.table }
         ensures both { Joined self.now.size seat.old.known other.known seat.new.known }
+        ensures merged { IsMerge (events seat.old.known) (events other.known) (events seat.new.known) }
+        ensures tally { tally_of seat.new.known ≡ plus (tally_of seat.old.known) (tally_of other.known) }
     {
         let Seat {
             seat: other,
@@ -168,16 +174,17 @@ impl<D: Drainer> Ring<D> {
         requires own { seat.old.table ≡ self.now.table }
         ensures own { seat.new.table ≡ seat.old.table }
         ensures look { Looked self.now.size seat.old.known result seat.new.known }
+        ensures went { Went self.now.size seat.old.known (entry seat.old.known.number (pack result) Look ∷ []) seat.new.known }
     {
         self.bare.look(&mut seat.seat)
     }
 
-    /// Consumes what a consumer left, where no seat is about to publish.
+    /// Consumes what a consumer left, where no seat is about to publish. It publishes nothing.
     pub fn check_drainage<R: Wait>(&self, rt: &R, seat: &mut Seat<D>, budget: u32) -> Checked
         requires own { seat.old.table ≡ self.now.table }
         requires budget { budget ≤ 65535 }
         ensures own { seat.new.table ≡ seat.old.table }
-        ensures answer { (es : _) × Went self.now.size seat.old.known es seat.new.known × IsChecked budget result es }
+        ensures answer { (es : _) × Went self.now.size seat.old.known es seat.new.known × IsChecked budget result es × (publishing es ≡ []) }
     {
         self.bare.check(rt, &mut seat.seat, budget, &mut seat.tally)
     }

@@ -20,7 +20,7 @@ use ifl_base::{RingWord, space};
 use std::sync::Wait;
 use std::thread::yield_now;
 
-// How often a seat looks, before each try to reserve, for a word in which no seat is about to publish.
+// How often a seat looks, before each try to reserve, for a word in which no seat is about to publish, while there is room.
 const LOOKS: u32 = 64;
 
 impl<D: Drainer> BareRing<D> {
@@ -44,9 +44,9 @@ impl<D: Drainer> BareRing<D> {
         read(self.size, word)
     }
 
-    /// The word that was seen, or, while some seat is about to publish, one that a further look finds. It looks again for
-    /// some time only.
-    pub fn look_for_quiet(&self, seat: &mut BareSeat<D>, seen: RingWord) -> RingWord
+    /// The word that was seen, or, while there is room for `n` items and some seat is about to publish, one that a further
+    /// look finds. It looks again for some time only, and not at all where there is no room: a refusal waits for nobody.
+    pub fn look_for_quiet(&self, seat: &mut BareSeat<D>, seen: RingWord, n: u32) -> RingWord
         requires table { seat.old.table_id ≡ self.now.table.shared.table_id }
         requires rest { Rests seat.old.me }
         requires lived { IsLived self.now.size seat.old.me.0.known }
@@ -60,7 +60,7 @@ impl<D: Drainer> BareRing<D> {
     {
         let mut seen = seen;
         for _ in 0..LOOKS {
-            if seen.head == seen.tail {
+            if seen.head == seen.tail || space(self.size, &seen) <= n {
                 return seen;
             }
             yield_now();
@@ -86,7 +86,7 @@ impl<D: Drainer> BareRing<D> {
         ensures same { (seat.new.table_id ≡ seat.old.table_id) × (seat.new.id ≡ seat.old.id) }
         ensures rest { Rests seat.new.me }
         ensures ok { IfOk result (λ w. IsWithin self.now.size w × (n < space self.now.size w) × (w ≡ last_word self.now.size seat.new.me.0.known) × ((es : _) × AreLooks es × Trails self.now.size seat.old.me.0.known es nothing_counted seat.new.me.0.known)) }
-        ensures err { IfErr result (λ w. (space self.now.size w ≤ n) × ((e : Entry) × Finds (step.Refuse n) w e × Trails self.now.size seat.old.me.0.known (e ∷ []) (record nothing_counted { drops = n }) seat.new.me.0.known)) }
+        ensures err { IfErr result (λ w. (space self.now.size w ≤ n) × ((e : Entry) × Finds (step.Refuse n) w e × Trails self.now.size seat.old.me.0.known (e ∷ []) (record nothing_counted { drops = n }) seat.new.me.0.known) × IsWithin self.now.size w) }
     {
         if n < space(self.size, &seen) {
             return Ok(seen);
@@ -106,11 +106,11 @@ impl<D: Drainer> BareRing<D> {
         requires batch { IsBatch n }
         ensures same { (seat.new.table_id ≡ seat.old.table_id) × (seat.new.id ≡ seat.old.id) }
         ensures ok { IfOk result (λ place. (place < self.now.size) × (n < self.now.size) × HasPlaces self.now.size n place seat.new.me × ((es : _) × EndsReserved n es × Trails self.now.size seat.old.me.0.known es nothing_counted seat.new.me.0.known)) }
-        ensures err { IfErr result (λ seen. Rests seat.new.me × (space self.now.size seen ≤ n) × ((es : _) × (publishing es ≡ []) × EndsRefused n seen es × Trails self.now.size seat.old.me.0.known es (record nothing_counted { drops = n }) seat.new.me.0.known)) }
+        ensures err { IfErr result (λ seen. Rests seat.new.me × (space self.now.size seen ≤ n) × ((es : _) × (publishing es ≡ []) × EndsRefused n seen es × Trails self.now.size seat.old.me.0.known es (record nothing_counted { drops = n }) seat.new.me.0.known) × IsWithin self.now.size seen) }
     {
         let mut seen = self.look(seat);
         for _ in rt.forever() {
-            let quiet = self.look_for_quiet(seat, seen);
+            let quiet = self.look_for_quiet(seat, seen, n);
             let roomy = match self.find_room(seat, quiet, n) {
                 Ok(roomy) => roomy,
                 Err(full) => return Err(full),

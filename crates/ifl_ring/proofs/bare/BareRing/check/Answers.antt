@@ -9,11 +9,11 @@ use Rattle.ifl_ring.specs.Tells.{entry}
 use Rattle.ifl_ring.proofs.Rests.{rests_after_look}
 use Rattle.ifl_ring.proofs.Settling.{over_taken}
 use Rattle.ifl_ring.proofs.Rising.{rises-nothing}
-use Rattle.ifl_ring.proofs.Trails.{trail-after, trail-made}
+use Rattle.ifl_ring.proofs.Trails.{lived-made, trail-after, trail-made}
 use Rattle.ifl_ring.proofs.bare.BareRing.check.Goals as goal
 
 pub drain-left-requires-clause-lived : goal.drain-left-requires-clause-lived
-drain-left-requires-clause-lived g c κs within = let o = c.in-Ok.ensures.ok in (o.1.made.legal, o.1.made.good)
+drain-left-requires-clause-lived g c κs within = let o = c.in-Ok.ensures.ok in lived-made _ _ _ _ c.look-seen.ensures.rest.0.named o.1.made
 
 pub drain-left-requires-clause-drives : goal.drain-left-requires-clause-drives
 drain-left-requires-clause-drives g c κs within = let range = c.args.self.now.range in let o = c.in-Ok.ensures.ok in

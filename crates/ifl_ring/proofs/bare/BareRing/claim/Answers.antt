@@ -7,11 +7,11 @@ use Rattle.ifl_ring.specs.Calls.{publishes}
 use Rattle.ifl_ring.specs.Tells.{entry}
 use Rattle.ifl_ring.proofs.Claiming.{has_places, publishing-last}
 use Rattle.ifl_ring.proofs.Rests.{looked_word, rests_after_look}
-use Rattle.ifl_ring.proofs.Trails.{looks-append, lived, trail-after, trail-first_look, trail-look, trail-looks, trail-made, trail-none}
+use Rattle.ifl_ring.proofs.Trails.{looks-append, lived, lived-made, trail-after, trail-first_look, trail-look, trail-looks, trail-made, trail-none}
 use Rattle.ifl_ring.proofs.bare.BareRing.claim.Goals as goal
 
 pub loop-init : goal.loop-init
-loop-init g c = let look = c.look-seen.ensures.look.0 in (refl, refl, c.look-seen.ensures.rest, c.look-seen.ensures.within, c.look-seen.ensures.look.1, ([], tt, trail-none _ _ (look.legal, look.good)))
+loop-init g c = let look = c.look-seen.ensures.look.0 in (refl, refl, c.look-seen.ensures.rest, c.look-seen.ensures.within, c.look-seen.ensures.look.1, ([], tt, trail-none _ _ (lived-made _ _ _ _ c.requires.rest.0.named look)))
 
 pub look_for_quiet-quiet-requires-clause-lived : goal.look_for_quiet-quiet-requires-clause-lived
 look_for_quiet-quiet-requires-clause-lived g c κs within = lived _ _ _ _ _ c.loop.invariant.5.2
@@ -29,6 +29,7 @@ returns-in-Err-clause-err g c = let q = trail-first_look _ _ _ _ c.requires.rest
     (q.0 ++ i.0, e, sym (append_assoc q.0 i.0 (e ∷ [])), looks-append q.0 i.0 q.1 i.1, r.1.1),
     trail-after _ c.args.seat.now.me.0.known _ _ q.0 (i.0 ++ e ∷ []) _ q.2 (trail-after _ _ _ _ i.0 (e ∷ []) _ i.2 r.1.2),
   ),
+  r.2,
 )
 
 pub returns-in-Ok-reserve-clause-ok : goal.returns-in-Ok-reserve-clause-ok

@@ -43,6 +43,7 @@ returns-in-Err-clause-went g c = let r = c.in-Err.ensures.err in let q = r.2 in 
         publishing-append q.0 f.0 ∙ (λ i. q.1 i ++ f.2 i),
         (q.2.0, q.2.1, f.0, ap (λ (z : List Entry). z ++ f.0) q.2.2 ∙ append_assoc q.2.0 (q.2.1 ∷ []) f.0, q.2.3, (q.2.4.0 ∙ ap Refuse n, q.2.4.1), f.3),
         subst (λ (z : ℕ). space c.args.self.now.size c.in-Err.seen ≤ z) n r.1,
+        r.3,
       ),
       trail-more _ c.args.seat.now.me.0.known _ _ q.0 f.0 up f.1 q.3 f.4,
       rises-plus up f.1 _ _ _ c.count_refused.ensures f.5,

@@ -16,4 +16,4 @@ returns-then-n-space-2-clause-ok g c = let v = c.args.seat.now.me.0.known in let
 pub returns-else-n-space-2-clause-err : goal.returns-else-n-space-2-clause-err
 returns-else-n-space-2-clause-err g c = let v = c.args.seat.now.me.0.known in let s = c.space-2.ensures in let not = c.if-n-space-2.false in
     let full : space c.args.self.now.size c.refuse-found.result ≤ c.args.n = omega arith in
-    (full, (entry v.number (pack c.refuse-found.result) (Refuse c.args.n), (refl, refl), trail-made _ v _ _ c.requires.rest.0.named (c.refuse-found.ensures.refused full)))
+    (full, (entry v.number (pack c.refuse-found.result) (Refuse c.args.n), (refl, refl), trail-made _ v _ _ c.requires.rest.0.named (c.refuse-found.ensures.refused full)), c.refuse-found.ensures.within)
