@@ -7,7 +7,7 @@ use Rattle.std.proofs.Math.Seq.{take-add}
 use lib.Seq.{drop-append-le}
 use Rattle.std.proofs.lemmas.List.{take-append-le}
 use Rattle.std.specs.Prelude.{Some, None}
-use Rattle.atomic_table.specs.Table.{Me, step}
+use Rattle.atomic_table.specs.Table.{Me, Step, step}
 use Rattle.ifl_desc.specs.declared.desc.Desc.{Desc}
 use Rattle.ifl_desc.specs.declared.history.Side.{Side}
 use Rattle.ifl_desc.specs.declared.history.Side.TheVariants.{Driver, Device}
@@ -15,12 +15,12 @@ use Rattle.ifl_desc.specs.declared.history.Event.{Event}
 use Rattle.ifl_desc.specs.declared.history.Event.TheVariants.{Sent, Looked}
 use Rattle.ifl_desc.specs.declared.history.View.{View}
 use Rattle.ifl_desc.specs.declared.rack.Rack.{Rack}
-use Rattle.ifl_desc.specs.History.{other, sent, known, own, looks}
+use Rattle.ifl_desc.specs.History.{other, sent_in, sent, known, own}
 use Rattle.ifl_desc.specs.Rule.{Slot, laid, view, InOrder}
-use Rattle.ifl_desc.specs.Plays.{distance, valued, pushed, pulled}
+use Rattle.ifl_desc.specs.Plays.{distance, valued, further, pushed_by, pushed, counted, pulled}
 use Rattle.ifl_desc.specs.Calls.{Grew}
 use Rattle.ifl_desc.specs.Rack.{IsRack, placed, taken, seen_of, ahead, row, spin}
-use Rattle.ifl_desc.proofs.Steps.{sent_append, known_append, same_sent, same_known, take_length}
+use Rattle.ifl_desc.proofs.Steps.{Counting, looked_counts, sent_append, known_append, same_sent, same_known, take_length}
 use Rattle.ifl_desc.proofs.Turning.{spin_all}
 use Rattle.ifl_desc.proofs.Rows.{laid_append, laid_length, drop_front, map_length, map_append, row_length}
 use Rattle.ifl_desc.proofs.Racks.{known_there, ahead_length, made}
@@ -60,16 +60,9 @@ pub laid_shift : {X : Type 0} (S b : ℕ) (xs : List X) → laid S (b + S) xs �
 laid_shift S b [] = refl
 laid_shift S b (x ∷ xs) = λ i. (add-mod_right b S i, x) ∷ (ap (λ (z : ℕ). laid S z xs) (let g : suc (b + S) ≡ suc b + S = omega arith in g) ∙ laid_shift S (suc b) xs) i
 
-looks_append : (r : Side) (g h : List Event) → looks r (g ++ h) ≡ looks r g + looks r h
-looks_append r [] h = omega arith
-looks_append r (e ∷ g) h = let i = looks_append r g h in omega arith
-
-looks_one : (r : Side) (n : ℕ) → looks r (Looked r n ∷ []) ≡ 1
-looks_one Driver n = refl
-looks_one Device n = refl
-
-pub grew_looks : (r : Side) (g h : List Event) (n : ℕ) → Grew r g h (Looked r n) → looks r g < looks r h
-grew_looks r g h n w = let a = ap (looks r) w.1 in let b = looks_append r (g ++ w.0) (Looked r n ∷ []) in let c = looks_append r g w.0 in let d = looks_one r n in omega arith
+-- a step that sends nothing
+pub quiet_sent : (r : Side) (g h : List Event) (n : ℕ) (e : Event) → Counting r n e → Grew r g h e → sent r h ≡ sent r g
+quiet_sent r g h n e k w = grew_sent r g h e w ∙ ap (λ (z : List Desc). sent r g ++ z) (append-nil (sent_in r e) ∙ k.quiet r) ∙ append-nil (sent r g)
 
 pub kept_sent : (r : Side) (g h : List Event) (n : ℕ) → Grew r g h (Looked r n) → sent r h ≡ sent r g
 kept_sent r g h n w = grew_sent r g h (Looked r n) w ∙ ap (λ (z : List Desc). sent r g ++ z) (looked_nil r r n) ∙ append-nil (sent r g)
@@ -101,12 +94,11 @@ module _ (r : Side) (h : Rack) (k : IsRack r h) where
   abbrev q : List Desc
   q = ahead r seen h.left
 
-  pub push_done : (i new x : ℕ) → h.put < S → new ≡ (a + h.put) % S → (h' : Rack) → pushed r (step S i new 0 none) h.seat.me x h'.seat.me
-      → h'.seat.table_id.slots ≡ S → h'.size ≡ S → h'.first ≡ new → h'.put ≡ 0 → h'.bare ≡ h.bare → h'.left ≡ h.left
+  pub push_done_by : (by : Step Slot → List Event → ℕ) (i new x : ℕ) → by (step S i new 0 none) seen ≡ h.put → (h' : Rack) → pushed_by by r (step S i new 0 none) h.seat.me x h'.seat.me
+      → h'.seat.table_id.slots ≡ S → h'.size ≡ S → h'.first ≡ (a + h.put) % S → h'.put ≡ 0 → h'.bare ≡ h.bare → h'.left ≡ h.left
       → IsRack r h' × (placed h' ≡ []) × Grew r seen (seen_of h') (Sent r p)
-  push_done i new x short word h' told id size first put bare left =
-      let n : ℕ = distance S a new in
-      let n_is : n ≡ h.put = ap (distance S a) word ∙ distance_is S a h.put k.some short in
+  push_done_by by i new x n_is h' told id size first put bare left =
+      let n : ℕ = by (step S i new 0 none) seen in
       let list : valued (take n h.seat.me.1) ≡ p = ap (λ (z : ℕ). valued (take z h.seat.me.1)) n_is in
       let seen' : List Event = seen_of h' in
       let w : Grew r seen seen' (Sent r p) = subst (λ (z : List Desc). Grew r seen seen' (Sent r z)) list told.1 in
@@ -123,27 +115,30 @@ module _ (r : Side) (h : Rack) (k : IsRack r h) where
       let m = made r h' [] told.0 (id ∙ sym size) (subst (λ (z : ℕ). 0 < z) (sym size) k.some) (subst (λ (z : ℕ). z ≤ 32768) (sym size) k.small)
       (rack ∙ (λ j. laid (sym size j) (sym a_is j) (replicate (sym bare j) None ++ map Some (sym q_is j))))
       (sym put)
-      (first ∙ word ∙ (λ j. sym a_is j % sym size j))
+      (first ∙ (λ j. sym a_is j % sym size j))
       (subst (λ (z : ℕ). h'.left ≤ z) (sym kn) (let l = k.left in omega arith))
       (subst (λ (z : ℕ). InOrder z seen') (sym size) told.2)
       (let f = k.fits in omega arith) in
       (m.0, m.1, w)
 
-  pub pull_done : (i x : ℕ) → ((xs : List Slot) → laid S (known r seen) xs ≡ laid S (a + ((h.put + h.bare) + h.left)) xs) → (m' : Me Slot View) → pulled r (step S i 0 0 none) h.seat.me x m'
-      → (h' : Rack) → h'.seat.me.0 ≡ m'.0 → h'.seat.me.1 ≡ spin (distance S (known r seen) x) m'.1
-      → h'.seat.table_id.slots ≡ S → h'.size ≡ S → h'.first ≡ h.first → h'.put ≡ h.put → h'.bare ≡ h.bare → h'.left ≡ h.left + distance S (known r seen) x → (h'.put + h'.bare) + h'.left ≤ S
-      → IsRack r h' × (placed h' ≡ p) × Grew r seen (seen_of h') (Looked r (distance S (known r seen) x))
-  pull_done i x turn m' told h' me0 me1 id size first put bare left fits =
-      let n : ℕ = distance S (known r seen) x in
-      let e : Event = Looked r n in
+  pub push_done : (i new x : ℕ) → h.put < S → new ≡ (a + h.put) % S → (h' : Rack) → pushed r (step S i new 0 none) h.seat.me x h'.seat.me
+      → h'.seat.table_id.slots ≡ S → h'.size ≡ S → h'.first ≡ new → h'.put ≡ 0 → h'.bare ≡ h.bare → h'.left ≡ h.left
+      → IsRack r h' × (placed h' ≡ []) × Grew r seen (seen_of h') (Sent r p)
+  push_done i new x short word h' told id size first put bare left = push_done_by (further r) i new x (ap (distance S a) word ∙ distance_is S a h.put k.some short) h' told id size (first ∙ word) put bare left
+
+  pub count_done : (n : ℕ) (e : Event) → Counting r n e → ((xs : List Slot) → laid S (known r seen) xs ≡ laid S (a + ((h.put + h.bare) + h.left)) xs) → (m' : Me Slot View) → counted r S e n h.seat.me m'
+      → (h' : Rack) → h'.seat.me.0 ≡ m'.0 → h'.seat.me.1 ≡ spin n m'.1
+      → h'.seat.table_id.slots ≡ S → h'.size ≡ S → h'.first ≡ h.first → h'.put ≡ h.put → h'.bare ≡ h.bare → h'.left ≡ h.left + n → (h'.put + h'.bare) + h'.left ≤ S
+      → IsRack r h' × (placed h' ≡ p) × Grew r seen (seen_of h') e
+  count_done n e counting turn m' told h' me0 me1 id size first put bare left fits =
       let seen' : List Event = m'.0.seen in
       let es : seen_of h' ≡ seen' = ap (λ (z : View). z.seen) me0 in
       let w : Grew r seen seen' e = told.1 in
-      let s : sent r seen' ≡ sent r seen = grew_sent r seen seen' e w ∙ ap (λ (z : List Desc). sent r seen ++ z) (looked_nil r r n) ∙ append-nil (sent r seen) in
-      let kn : known r seen' ≡ known r seen + n = grew_known r seen seen' e w ∙ ap (λ (z : ℕ). known r seen + z) (looked_one r n) in
+      let s : sent r seen' ≡ sent r seen = grew_sent r seen seen' e w ∙ ap (λ (z : List Desc). sent r seen ++ z) (append-nil (sent_in r e) ∙ counting.quiet r) ∙ append-nil (sent r seen) in
+      let kn : known r seen' ≡ known r seen + n = let g = grew_known r seen seen' e w in let m = counting.more in omega arith in
       let list : List Desc = sent (other r) seen' in
       let news : List Desc = take n (drop (known r seen) list) in
-      let all : known r seen' ≡ length list = told.4 in
+      let all : known r seen' ≤ length list = known_there S r seen' told.2 in
       let news_many : length news ≡ n = take_length n (drop (known r seen) list) (let d = length-drop (known r seen) list in omega arith) in
       let below : known r seen - h.left ≤ length (take (known r seen) (sent (other r) seen)) = let t = take_length (known r seen) (sent (other r) seen) (known_there S r seen k.order) in omega arith in
       let q_is : ahead r seen' h'.left ≡ q ++ news =
@@ -158,7 +153,7 @@ module _ (r : Side) (h : Rack) (k : IsRack r h) where
       ∙ ap (λ (z : List Slot). map Some p ++ z) (append_assoc (replicate h.bare None) (map Some q) (map Some news) ∙ ap (λ (z : List Slot). replicate h.bare None ++ z) (sym (map_append q news)))) in
       let many : length (laid S (known r seen) (map {A = Desc} {B = Slot} Some news)) ≡ n = laid_length S (known r seen) (map Some news) ∙ map_length news ∙ news_many in
       let rack : h'.seat.me.1 ≡ laid S a (row p h.bare (q ++ news)) =
-      me1 ∙ ap (spin n) told.5 ∙ ap (λ (z : ℕ). spin z (laid S (known r seen) (map Some news) ++ h.seat.me.1)) (sym many) ∙ spin_all (laid S (known r seen) (map Some news)) h.seat.me.1
+      me1 ∙ ap (spin n) told.4 ∙ ap (λ (z : ℕ). spin z (laid S (known r seen) (map Some news) ++ h.seat.me.1)) (sym many) ∙ spin_all (laid S (known r seen) (map Some news)) h.seat.me.1
       ∙ ap (λ (z : List (ℕ × Slot)). z ++ laid S (known r seen) (map Some news)) k.rack ∙ joined in
       let F : List Event → Type 0 = λ z. (h'.seat.me.1 ≡ laid h'.size (length (sent r z)) (row p h'.bare (ahead r z h'.left))) × (h'.first ≡ length (sent r z) % h'.size) × (h'.left ≤ known r z) × InOrder h'.size z in
       let f : F seen' = (
@@ -171,6 +166,13 @@ module _ (r : Side) (h : Rack) (k : IsRack r h) where
       let m = made r h' p (me0 ∙ told.0 ∙ (λ j. view r (sym es j))) (id ∙ sym size) (subst (λ (z : ℕ). 0 < z) (sym size) k.some) (subst (λ (z : ℕ). z ≤ 32768) (sym size) k.small)
       f'.0 (k.many ∙ sym put) f'.1 f'.2 f'.3 (let z : (h'.put + h'.bare) + h'.left ≤ h'.size = omega arith in z) in
       (m.0, m.1, subst (λ (z : List Event). Grew r seen z e) (sym es) w)
+
+  pub pull_done : (i x : ℕ) → ((xs : List Slot) → laid S (known r seen) xs ≡ laid S (a + ((h.put + h.bare) + h.left)) xs) → (m' : Me Slot View) → pulled r (step S i 0 0 none) h.seat.me x m'
+      → (h' : Rack) → h'.seat.me.0 ≡ m'.0 → h'.seat.me.1 ≡ spin (distance S (known r seen) x) m'.1
+      → h'.seat.table_id.slots ≡ S → h'.size ≡ S → h'.first ≡ h.first → h'.put ≡ h.put → h'.bare ≡ h.bare → h'.left ≡ h.left + distance S (known r seen) x → (h'.put + h'.bare) + h'.left ≤ S
+      → IsRack r h' × (placed h' ≡ p) × Grew r seen (seen_of h') (Looked r (distance S (known r seen) x))
+  pull_done i x turn m' told h' me0 me1 id size first put bare left fits = let n : ℕ = distance S (known r seen) x in
+      count_done n (Looked r n) (looked_counts r n) turn m' (told.0, told.1, told.2, told.3, told.5) h' me0 me1 id size first put bare left fits
 
   pub saw_done : (h' : Rack) → IsPrefix seen (seen_of h') → own r (seen_of h') ≡ own r seen → h'.seat.me.0 ≡ view r (seen_of h') → InOrder S (seen_of h') → h'.seat.me.1 ≡ h.seat.me.1
       → h'.seat.table_id.slots ≡ S → h'.size ≡ S → h'.first ≡ h.first → h'.put ≡ h.put → h'.bare ≡ h.bare → h'.left ≡ h.left → IsRack r h' × (placed h' ≡ p) × (taken r h' ≡ taken r h)

@@ -7,13 +7,13 @@ use Rattle.ifl_desc.specs.declared.desc.Desc.{Desc}
 use Rattle.ifl_desc.specs.declared.history.Side.{Side}
 use Rattle.ifl_desc.specs.declared.history.Side.TheVariants.{Driver, Device}
 use Rattle.ifl_desc.specs.declared.history.Event.{Event}
-use Rattle.ifl_desc.specs.declared.history.Event.TheVariants.{Sent, Looked}
+use Rattle.ifl_desc.specs.declared.history.Event.TheVariants.{Sent}
 use Rattle.ifl_desc.specs.declared.history.View.{View}
 use Rattle.ifl_desc.specs.History.{sent, known, own}
 use Rattle.ifl_desc.specs.Frames.{IsFine}
 use Rattle.ifl_desc.specs.Rule.{Slot, laid, gives_all, takes_all, view, InOrder, IsLawful, Tied}
 use Rattle.ifl_desc.proofs.Slots.{Homes, places, given_homes, given_carried, given_valid, places_length, taken_carried, taken_length, taken_valid}
-use Rattle.ifl_desc.proofs.Steps.{Fits, Lies, Is, moved, same_sent, same_known, order_push, order_pull, push_home, pull_home, news, news_home, news_length, lawful_more}
+use Rattle.ifl_desc.proofs.Steps.{Fits, Lies, Is, Counting, moved, same_sent, same_known, order_push, order_pull, push_home, pull_home, news, news_home, news_length, lawful_more}
 
 -- seen is a beginning of h, which has no other step of the side r
 abbrev pub Has : Side → List Event → List Event → Type 0
@@ -22,10 +22,6 @@ Has r seen h = IsPrefix seen h × (own r seen ≡ own r h)
 is_sent : (r : Side) (ds : List Desc) → Is r (Sent r ds)
 is_sent Driver ds = (refl, refl)
 is_sent Device ds = (refl, refl)
-
-is_looked : (r : Side) (n : ℕ) → Is r (Looked r n)
-is_looked Driver n = (refl, refl)
-is_looked Device n = (refl, refl)
 
 pub same_fits : (S : ℕ) (r : Side) (g h : List Event) (n : ℕ) → own r g ≡ own r h → Fits S r g n → Fits S r h n
 same_fits S Driver g h n e f = let a = ap length (same_sent Driver g h e) in let b = same_known Driver g h e in omega arith
@@ -59,22 +55,22 @@ module _ (S : ℕ) (tie : List ℕ → List Event → Type 0) where
         subst T (sym (given_carried S a xs c)) (told (get_or s.words i 0) h has order (lawful_more S h e t.lawful order fine)),
       )
 
-  pub pulling : (id : ℕ) (r : Side) (seen : List Event) (c : List (ℕ × Slot)) (i : ℕ) (f : ℕ → ℕ) (then : ℕ → Me Slot View → Type 0)
+  pub pulling : (id : ℕ) (r : Side) (seen : List Event) (c : List (ℕ × Slot)) (i : ℕ) (f : ℕ → ℕ) (ev : ℕ → Event) → ((n : ℕ) → Counting r n (ev n)) → (then : ℕ → Me Slot View → Type 0)
       → ((ws : List ℕ) (h : List Event) → Has r seen h → InOrder S h → tie ws h
-      → (n : ℕ) × Lies r h n × tie (set ws i (f (get_or ws i 0))) (h ++ Looked r n ∷ []) × (InOrder S (h ++ Looked r n ∷ []) → IsLawful S (h ++ Looked r n ∷ []) → then (get_or ws i 0) (view r (h ++ Looked r n ∷ []), laid S (known r seen) (map Some (news r h n)) ++ c)))
+      → (n : ℕ) × Lies r h n × tie (set ws i (f (get_or ws i 0))) (h ++ ev n ∷ []) × (InOrder S (h ++ ev n ∷ []) → IsLawful S (h ++ ev n ∷ []) → then (get_or ws i 0) (view r (h ++ ev n ∷ []), laid S (known r seen) (map Some (news r h n)) ++ c)))
       → Allows (Tied S tie) S id (view r seen, c) i f then
-  pulling id r seen c i f then goes s t size at bound =
+  pulling id r seen c i f ev counting then goes s t size at bound =
       let h : List Event = t.log in
       let has : Has r seen h = t.each id (view r seen) at in
       let g = goes s.words h has t.order t.shows in
       let n : ℕ = g.0 in
       let lies : Lies r h n = g.1 in
-      let e : Event = Looked r n in
+      let e : Event = ev n in
       let xs : List Slot = map Some (news r h n) in
       let a : ℕ = known r seen in
       let w : View = view r (h ++ e ∷ []) in
       let words : List ℕ = set s.words i (f (get_or s.words i 0)) in
-      let order : InOrder S (h ++ e ∷ []) = order_pull S h r n t.order lies in
+      let order : InOrder S (h ++ e ∷ []) = order_pull S h r n e (counting n) t.order lies in
       let there : known r h ≡ a = sym (same_known r seen h has.1) in
       let T : List (ℕ × Slot) → Type 0 = λ z. then (get_or s.words i 0) (w, z) in
       let P : ℕ → Type 0 = λ z. Tied S tie record { words = words; homes = homes_after s.homes c (takes_all S z xs); views = set s.views id w } in
@@ -82,9 +78,9 @@ module _ (S : ℕ) (tie : List ℕ → List Event → Type 0) where
         w,
         takes_all S a xs,
         subst V there (taken_valid S s.homes c (known r h) xs (few r h n t.order lies) (news_home S h s.homes t.order t.room t.at_home r n)),
-        subst P there (moved S tie s t id r seen e words (homes_after s.homes c (takes_all S (known r h) xs)) at (is_looked r n) (taken_length S s.homes c (known r h) xs ∙ t.size)
-            g.2 order tt (pull_home S h s.homes t.order t.room t.at_home r n lies c)),
-        subst T (sym (taken_carried S c a xs)) (g.3 order (lawful_more S h e t.lawful order tt)),
+        subst P there (moved S tie s t id r seen e words (homes_after s.homes c (takes_all S (known r h) xs)) at (counting n).is (taken_length S s.homes c (known r h) xs ∙ t.size)
+            g.2 order (counting n).fine (pull_home S h s.homes t.order t.room t.at_home r n e (counting n) lies c)),
+        subst T (sym (taken_carried S c a xs)) (g.3 order (lawful_more S h e t.lawful order (counting n).fine)),
       )
     where
       few : (r : Side) (h : List Event) (n : ℕ) → InOrder S h → Lies r h n → length (map Some (news r h n)) ≤ S

@@ -15,9 +15,10 @@ use Rattle.ifl_desc.specs.declared.history.Role.TheVariants.{Whole, Full, End, N
 use Rattle.ifl_desc.specs.declared.history.View.{View}
 use Rattle.ifl_desc.specs.History.{other, sent, known, own}
 use Rattle.ifl_desc.specs.Rule.{Slot, laid, takes_all, view, InOrder, IsLawful, Acts, Knows, Tied}
-use Rattle.ifl_desc.specs.Plays.{filled, saw, note, hearing, whole, full}
+use Rattle.ifl_desc.specs.Plays.{filled, saw, caught, note, hearing, whole, full}
 use Rattle.ifl_desc.proofs.Slots.{Homes, taken_carried, taken_length, taken_valid}
 use Rattle.ifl_desc.proofs.Steps.{self}
+use Rattle.ifl_desc.proofs.Prefixes.{own_between, lawful_prefix}
 
 blank : (n i : ℕ) → i < n → get_elem? (map some (replicate {A = Slot} n None)) i ≡ some (some None)
 blank zero i h = absurd (omega arith)
@@ -220,4 +221,33 @@ module _ (S : ℕ) (tie : List ℕ → List Event → Type 0) where
           one = λ j x e q acts. ⊎_elim (λ (p : (j ≡ id) × (w ≡ x)). p.0 ∙ t.one id v at q (subst (λ (z : View). Acts z.role q) (sym p.1) acts)) (λ (p : (j ≢ id) × (get_elem? s.views j ≡ some x)). t.one j x p.1 q acts) (at_set s.views id j w x e);
         },
         (refl, k.0, t.hears id v at, sym k.1, t.order, t.lawful, refl),
+      )
+
+  -- a look of a seat that has heard of a history that goes on from its own, which it has seen from then on
+  pub catches : (id i : ℕ) (r : Side) (seen heard : List Event) (c : List (ℕ × Slot)) → IsPrefix seen heard → ((ws : List ℕ) (h : List Event) → tie ws h → tie (set ws i (get_or ws i 0)) h)
+      → Allows (Tied S tie) S id (record { role = End r; seen = seen; heard = heard }, c) i (λ n. n) (caught r (step S i 0 0 none) (record { role = End r; seen = seen; heard = heard }, c))
+  catches id i r seen heard c later stays s t size at bound =
+      let v : View = record { role = End r; seen = seen; heard = heard } in
+      let k : Knows S t.log s.homes (End r) seen = t.each id v at in
+      let told : IsPrefix heard t.log = t.hears id v at in
+      let mine : own r heard ≡ own r t.log = own_between r seen heard t.log later told k.1 in
+      let w : View = view r heard in (
+        w,
+        keeps,
+        tt,
+        record {
+          log = t.log;
+          who = t.who;
+          size = t.size;
+          room = t.room;
+          shows = stays s.words t.log t.shows;
+          order = t.order;
+          lawful = t.lawful;
+          at_home = t.at_home;
+          each = λ j x e. ⊎_elim (λ (p : (j ≡ id) × (w ≡ x)). subst (λ (z : View). Knows S t.log s.homes z.role z.seen) p.1 (told, mine))
+              (λ (p : (j ≢ id) × (get_elem? s.views j ≡ some x)). t.each j x p.1) (at_set s.views id j w x e);
+          hears = λ j x e. ⊎_elim (λ (p : (j ≡ id) × (w ≡ x)). subst (λ (z : View). IsPrefix z.heard t.log) p.1 (t.log, refl)) (λ (p : (j ≢ id) × (get_elem? s.views j ≡ some x)). t.hears j x p.1) (at_set s.views id j w x e);
+          one = λ j x e q acts. ⊎_elim (λ (p : (j ≡ id) × (w ≡ x)). p.0 ∙ t.one id v at q (subst (λ (z : View). Acts z.role q) (sym p.1) acts)) (λ (p : (j ≢ id) × (get_elem? s.views j ≡ some x)). t.one j x p.1 q acts) (at_set s.views id j w x e);
+        },
+        (refl, mine ∙ sym k.1, t.lawful.order heard told, lawful_prefix S heard t.log told t.lawful, refl),
       )

@@ -20,8 +20,9 @@ use Rattle.ifl_desc.specs.Ends.{DriverSees, DeviceSees, completed}
 use Rattle.ifl_desc.specs.Calls.{Meets, Credits, Fetches}
 use Rattle.ifl_desc.specs.Plays.{Mine, closing, retired, gathered, joined}
 use Rattle.ifl_desc.proofs.AfterSteps.{grew_prefix, kept_sent}
-use Rattle.ifl_desc.specs.Closed.{ClosedSees, IsClosed, Closes, HaveMet, left_of, remains_of}
-use Rattle.ifl_desc.proofs.Steps.{sent_append, same_sent}
+use Rattle.ifl_desc.specs.Closed.{ClosedSees, IsClosed, Leaves, Closes, HaveMet, left_of, remains_of}
+use Rattle.ifl_desc.proofs.Steps.{sent_append, same_sent, same_known}
+use Rattle.ifl_desc.proofs.Looking.{same_looks, grew_own, grew_looks}
 use Rattle.ifl_desc.proofs.Racks.{take_all_of}
 
 pub prefix_trans : (a b c : List Event) → IsPrefix a b → IsPrefix b c → IsPrefix a c
@@ -129,19 +130,17 @@ module _ (h v : Rack) (k : DriverOk h) (w : DeviceOk v) (m : HaveMet (driver_of 
       let s = ap length driver_knows in let u = m.told in let t = k.total in let o = k.bare in let f = k.rack.left in record {
         lawful = lawful;
         short = subst (IsShort 0) (sym pending_is) k.short;
-        behind = omega arith;
+        lengths = record { returned = omega arith; fetched = omega arith; rung = in_turn; posted = omega arith; free = omega arith };
         done = refl;
-        within = in_turn;
-        room = omega arith;
       }
 
-  pub closed_list : Closes (driver_of h) (device_of v) closed
+  pub closed_list : Leaves (driver_of h) (device_of v) closed
   closed_list = record {
     size = sym k.rack.size;
     of_driver = driver_saw;
     of_device = device_prefix;
-    rung = rung_is;
-    returned = returned_is;
+    driver_own = sym driver_own;
+    device_own = sym was_own ∙ device_same;
     pending = pending_is;
     back = back_is;
     fetched = ap length returned_is ∙ sym m.done;
@@ -151,7 +150,7 @@ module _ (h v : Rack) (k : DriverOk h) (w : DeviceOk v) (m : HaveMet (driver_of 
 pub remains_ok : (h v : Rack) (k : DriverOk h) (w : DeviceOk v) → HaveMet (driver_of h) (device_of v) → (S slots i x y : ℕ) → S ≡ h.size → slots ≡ h.size
     → (d : View) → d ≡ h.seat.me.0 → (a b : Mine) → a.0 ≡ v.seat.me.0 → retired (step slots i 0 0 none) a x b → (j e : Mine) → j.0 ≡ closing d b.0 → gathered (step slots i 0 0 none) j y e
     → (items : List Desc) → items ≡ (ahead Driver (seen_of h) h.left ++ ahead Device (seen_of v) v.left) ++ placed h
-    → IsClosed (remains_of items S h.put e.0.seen) × (items ≡ left_of (remains_of items S h.put e.0.seen)) × Closes (driver_of h) (device_of v) (remains_of items S h.put e.0.seen)
+    → IsClosed (remains_of items S h.put e.0.seen) × (items ≡ left_of (remains_of items S h.put e.0.seen)) × Leaves (driver_of h) (device_of v) (remains_of items S h.put e.0.seen)
 remains_ok h v k w m S slots i x y S_is slots_is d d_is a b a_is gone j e j_is told items out =
     let end : List Event = e.0.seen in
     let was : List Event = b.0.seen in
@@ -165,7 +164,7 @@ remains_ok h v k w m S slots i x y S_is slots_is d d_is a b a_is gone j e j_is t
     let device_saw : IsPrefix (seen_of v) was = subst (λ (z : List Event). IsPrefix z was) before gone.1 in
     let device_same : own Device was ≡ own Device (seen_of v) = gone.2 ∙ ap (own Device) before in
     let lawful : IsLawful h.size end = subst (λ (z : ℕ). IsLawful z end) slots_is told.4 in
-    let P : ℕ → Type 0 = λ z. IsClosed (remains_of items z h.put end) × (items ≡ left_of (remains_of items z h.put end)) × Closes (driver_of h) (device_of v) (remains_of items z h.put end) in
+    let P : ℕ → Type 0 = λ z. IsClosed (remains_of items z h.put end) × (items ≡ left_of (remains_of items z h.put end)) × Leaves (driver_of h) (device_of v) (remains_of items z h.put end) in
     subst P (sym S_is) (
       closed_lawful h v k w m end was driver_saw driver_own device_saw device_same was_saw was_own lawful items out,
       closed_left h v k w m end was driver_saw driver_own device_saw device_same was_saw was_own lawful items out,
@@ -195,15 +194,23 @@ module _ (d d' d'' : DriverSees) (v v' v'' : DeviceSees) (n k : ℕ) (m : Meets 
         none = ap (λ (z : DeviceSees). z.ready) f.1 ∙ ap (λ (z : DeviceSees). z.ready) m.device ∙ gone;
       }
 
-  -- what closes these ends closes those that met
-  pub closes_since : (z : ClosedSees) → Closes d'' v'' z → Closes d v z
-  closes_since z o = record {
-    size = o.size ∙ ap (λ (x : DriverSees). x.ring.slots) c.same ∙ ap (λ (x : DriverSees). x.ring.slots) m.driver;
-    of_driver = prefix_trans d.seen d'.seen z.history m.of_driver (prefix_trans d'.seen d''.seen z.history c.goes_on o.of_driver);
-    of_device = prefix_trans v.seen v'.seen z.history m.of_device (prefix_trans v'.seen v''.seen z.history (grew_prefix Device v'.seen v''.seen (Looked Device k) f.0) o.of_device);
-    rung = o.rung ∙ driver_sent;
-    returned = o.returned ∙ device_sent;
-    pending = o.pending ∙ ap (λ (x : DriverSees). x.pending) c.same ∙ ap (λ (x : DriverSees). x.pending) m.driver;
-    back = o.back ∙ ap (λ (x : DriverSees). x.back) c.same ∙ ap (λ (x : DriverSees). x.back) m.driver;
-    fetched = o.fetched ∙ ap (λ (x : DeviceSees). x.fetched) f.1 ∙ ap (λ (x : DeviceSees). x.fetched) m.device;
-  }
+  -- what these ends leave closes those that met
+  pub closes_since : (z : ClosedSees) → Leaves d'' v'' z → Closes d v z
+  closes_since z o =
+      let grown = grew_own Device v'.seen v''.seen (Looked Device k) f.0 in
+      let a = same_looks Driver z.history d''.seen o.driver_own in let b = same_looks Driver d'.seen d.seen m.driver_own in let few = c.few in
+      let e = same_known Driver z.history d''.seen o.driver_own in let g = same_known Driver d'.seen d.seen m.driver_own in let more = c.more in
+      let x = same_looks Device z.history v''.seen o.device_own in let y = same_looks Device v'.seen v.seen m.device_own in let once = grew_looks Device v'.seen v''.seen (Looked Device k) f.0 in record {
+        size = o.size ∙ ap (λ (x : DriverSees). x.ring.slots) c.same ∙ ap (λ (x : DriverSees). x.ring.slots) m.driver;
+        of_driver = prefix_trans d.seen d'.seen z.history m.of_driver (prefix_trans d'.seen d''.seen z.history c.goes_on o.of_driver);
+        of_device = prefix_trans v.seen v'.seen z.history m.of_device (prefix_trans v'.seen v''.seen z.history (grew_prefix Device v'.seen v''.seen (Looked Device k) f.0) o.of_device);
+        driver_steps = (c.own_steps.0, o.driver_own ∙ c.own_steps.1 ∙ ap (λ (x : List Event). x ++ c.own_steps.0) m.driver_own, c.own_steps.2);
+        device_steps = (Looked Device k ∷ [], o.device_own ∙ grown ∙ ap (λ (x : List Event). x ++ Looked Device k ∷ []) m.device_own, (tt, tt));
+        driver_looks = omega arith;
+        device_looks = omega arith;
+        rung = same_sent Driver z.history d''.seen o.driver_own ∙ driver_sent;
+        returned = same_sent Device z.history v''.seen o.device_own ∙ device_sent;
+        pending = o.pending ∙ ap (λ (x : DriverSees). x.pending) c.same ∙ ap (λ (x : DriverSees). x.pending) m.driver;
+        back = o.back ∙ ap (λ (x : DriverSees). x.back) c.same ∙ ap (λ (x : DriverSees). x.back) m.driver;
+        fetched = o.fetched ∙ ap (λ (x : DeviceSees). x.fetched) f.1 ∙ ap (λ (x : DeviceSees). x.fetched) m.device;
+      }

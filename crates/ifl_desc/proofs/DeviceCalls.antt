@@ -1,7 +1,7 @@
 -- The device's end after each of its calls.
 use Rattle.std.proofs.Common.{◌≡◌, ℕ, ◌+◌, ◌-◌, ◌%◌, ◌<◌, ◌≤◌, Bool, true, false, cond, List, [], ◌∷◌, ◌++◌, length, sym, ap, ◌∙◌, subst, arith, append-nil, length-append}
 use mathlib.Core.Option.{none}
-use Rattle.atomic_table.specs.Table.{Me, step}
+use Rattle.atomic_table.specs.Table.{Me, Step, step}
 use Rattle.ifl_desc.specs.declared.desc.Desc.{Desc}
 use Rattle.ifl_desc.specs.declared.history.Side.TheVariants.{Driver, Device}
 use Rattle.ifl_desc.specs.declared.history.Event.{Event}
@@ -11,12 +11,13 @@ use Rattle.ifl_desc.specs.declared.rack.Rack.{Rack}
 use Rattle.ifl_desc.specs.History.{sent, known}
 use Rattle.ifl_desc.specs.Frames.{IsBegun, IsFrame, IsSettled}
 use Rattle.ifl_desc.specs.Rule.{Slot, laid, IsLawful}
-use Rattle.ifl_desc.specs.Plays.{distance, pushed, pulled}
+use Rattle.ifl_desc.specs.Plays.{distance, further, pushed_by, pushed, pulled}
 use Rattle.ifl_desc.specs.Ends.{DeviceSees, IsDevice, completed}
 use Rattle.ifl_desc.specs.Calls.{Grew, Fetches, Completes}
 use Rattle.ifl_desc.specs.Rack.{IsRack, SameSeat, placed, taken, seen_of, spin}
 use Rattle.ifl_desc.proofs.Rows.{slot_at}
-use Rattle.ifl_desc.proofs.AfterSteps.{push_done, pull_done, grew_sent, grew_known, kept_sent, more_known}
+use Rattle.ifl_desc.proofs.OwnSteps.{distance_is}
+use Rattle.ifl_desc.proofs.AfterSteps.{push_done_by, pull_done, grew_sent, grew_known, kept_sent, more_known}
 use Rattle.ifl_desc.specs.Sides.{device_of, DeviceOk}
 use Rattle.ifl_desc.proofs.DriverCalls.{last_is}
 
@@ -97,12 +98,12 @@ module _ (h h₁ : Rack) (d : Desc) (settled : IsSettled d.status) (k : DeviceOk
   pub word₁ : (h₁.first + h₁.put) % h₁.size ≡ (length (sent Device (seen_of h₁)) + h₁.put) % h₁.size
   word₁ = slot_at h₁.size (length (sent Device (seen_of h₁))) h₁.first h₁.put rack.first
 
-  pub return_done : d.last ≡ true → (h' : Rack) (slots : ℕ) → slots ≡ h₁.size → pushed Device (step slots 1 ((h₁.first + h₁.put) % h₁.size) 0 none) h₁.seat.me ((h₁.first + h₁.put) % h₁.size) h'.seat.me
+  -- the frame was sent by a store of `new` into the word i
+  pub return_done_by : (by : Step Slot → List Event → ℕ) (i new : ℕ) → by (step h₁.size i new 0 none) (seen_of h₁) ≡ h₁.put → d.last ≡ true → (h' : Rack) (slots : ℕ) → slots ≡ h₁.size → pushed_by by Device (step slots i new 0 none) h₁.seat.me new h'.seat.me
       → h'.seat.table_id ≡ h₁.seat.table_id → h'.size ≡ h₁.size → h'.first ≡ (h₁.first + h₁.put) % h₁.size → h'.put ≡ 0 → h'.bare ≡ h₁.bare → h'.left ≡ h₁.left → DeviceOk h' × Completes (device_of h) d (device_of h')
-  return_done marked h' slots slots_is told id size' first' put' bare' left' =
-      let new : ℕ = (h₁.first + h₁.put) % h₁.size in
-      let told' : pushed Device (step h₁.size 1 new 0 none) h₁.seat.me new h'.seat.me = subst (λ (z : ℕ). pushed Device (step z 1 new 0 none) h₁.seat.me new h'.seat.me) slots_is told in
-      let q = push_done Device h₁ rack 1 new new short₁ word₁ h' told' (ap (λ z. z.slots) id ∙ rack.size) size' first' put' bare' left' in
+  return_done_by by i new many marked h' slots slots_is told id size' first' put' bare' left' =
+      let told' : pushed_by by Device (step h₁.size i new 0 none) h₁.seat.me new h'.seat.me = subst (λ (z : ℕ). pushed_by by Device (step z i new 0 none) h₁.seat.me new h'.seat.me) slots_is told in
+      let q = push_done_by Device h₁ rack by i new new many h' told' (ap (λ z. z.slots) id ∙ rack.size) size' (first' ∙ word₁) put' bare' left' in
       let ev : Event = Sent Device (placed h₁) in
       let seen' : List Event = seen_of h' in
       let n = rack.many in let l = rack.left in let t = total₁ in
@@ -120,6 +121,11 @@ module _ (h h₁ : Rack) (d : Desc) (settled : IsSettled d.status) (k : DeviceOk
         },
         subst C (sym marked) (w, (λ i. record { ring = (id ∙ same.0) i; seen = seen'; fetched = fetched i; ready = q.1 i })),
       )
+
+  pub return_done : d.last ≡ true → (h' : Rack) (slots : ℕ) → slots ≡ h₁.size → pushed Device (step slots 1 ((h₁.first + h₁.put) % h₁.size) 0 none) h₁.seat.me ((h₁.first + h₁.put) % h₁.size) h'.seat.me
+      → h'.seat.table_id ≡ h₁.seat.table_id → h'.size ≡ h₁.size → h'.first ≡ (h₁.first + h₁.put) % h₁.size → h'.put ≡ 0 → h'.bare ≡ h₁.bare → h'.left ≡ h₁.left → DeviceOk h' × Completes (device_of h) d (device_of h')
+  return_done = let a : ℕ = length (sent Device (seen_of h₁)) in
+      return_done_by (further Device) 1 ((h₁.first + h₁.put) % h₁.size) (ap (distance h₁.size a) word₁ ∙ distance_is h₁.size a h₁.put rack.some short₁)
 
 pub room_of_device : (h : Rack) → DeviceOk h → (v : DeviceSees) → device_of h ≡ v → completed v < v.fetched → 0 < h.bare
 room_of_device h k v e r = let r' : completed (device_of h) < taken Device h = subst (λ (z : DeviceSees). completed z < z.fetched) (sym e) r in let n = k.rack.many in let l = k.rack.left in let t = k.total in omega arith

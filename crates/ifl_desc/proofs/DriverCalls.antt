@@ -1,5 +1,5 @@
 -- The driver's end after each of its calls.
-use Rattle.std.proofs.Common.{◌≡◌, ℕ, suc, ◌+◌, ◌-◌, ◌%◌, ◌<◌, ◌≤◌, cond, List, [], ◌∷◌, ◌++◌, length, sym, ap, ◌∙◌, subst, arith, append-nil, length-append}
+use Rattle.std.proofs.Common.{◌≡◌, ℕ, suc, ◌+◌, ◌-◌, ◌%◌, ◌<◌, ◌≤◌, cond, List, [], ◌∷◌, ◌++◌, length, sym, refl, ap, ◌∙◌, subst, arith, append-nil, length-append}
 use mathlib.Core.Option.{none}
 use Rattle.atomic_table.specs.Table.{Me, step}
 use Rattle.ifl_desc.specs.declared.desc.Desc.{Desc}
@@ -12,13 +12,16 @@ use Rattle.ifl_desc.specs.declared.rack.Rack.{Rack}
 use Rattle.ifl_desc.specs.History.{sent, known}
 use Rattle.ifl_desc.specs.Frames.{IsShort, open_after}
 use Rattle.ifl_desc.specs.Rule.{Slot, laid, IsLawful}
-use Rattle.ifl_desc.specs.Plays.{distance, pushed, pulled}
+use Rattle.ifl_desc.specs.Plays.{distance, pushed, counted, pulled}
 use Rattle.ifl_desc.specs.Ends.{DriverSees, IsDriver, room_of}
-use Rattle.ifl_desc.specs.Calls.{Grew, Flushes, Credits}
+use Rattle.ifl_desc.specs.Calls.{Grew, Flushes, Learns, Credits}
 use Rattle.ifl_desc.specs.Rack.{IsRack, SameSeat, placed, taken, seen_of, spin}
 use Rattle.ifl_desc.proofs.Rows.{slot_at}
 use Rattle.std.proofs.Math.Nat.{add-mod_right}
-use Rattle.ifl_desc.proofs.AfterSteps.{push_done, pull_done, grew_sent, grew_known, grew_prefix, grew_looks, kept_sent, more_known, laid_shift}
+use Rattle.ifl_desc.proofs.Steps.{Counting, looked_counts}
+use Rattle.ifl_desc.proofs.Looking.{only_none, only_trans, only_one, grew_looks}
+use Rattle.ifl_desc.proofs.Closing.{prefix_trans}
+use Rattle.ifl_desc.proofs.AfterSteps.{push_done, pull_done, count_done, quiet_sent, grew_sent, grew_known, grew_prefix, kept_sent, more_known, laid_shift}
 use Rattle.ifl_desc.specs.Sides.{driver_of, DriverOk}
 
 pub driver_lawful : (h : Rack) → DriverOk h → IsDriver (driver_of h)
@@ -114,12 +117,71 @@ learn_done h h' k m' slots x n slots_is n_is told id me0 me1 size first put bare
       record {
         goes_on = grew_prefix Driver a (seen_of h') (Looked Driver n) w;
         same = λ i. record { ring = id i; seen = seen_of h'; pending = d.1 i; back = back i };
+        own_steps = only_one Driver a (seen_of h') n (Looked Driver n) (looked_counts Driver n) w;
         rings_not = kept_sent Driver a (seen_of h') n w;
-        looked = grew_looks Driver a (seen_of h') n w;
+        looked = let z = grew_looks Driver a (seen_of h') (Looked Driver n) w in omega arith;
+        few = let z = grew_looks Driver a (seen_of h') (Looked Driver n) w in omega arith;
         more = kn';
         all = all';
       },
     )
+
+-- the driver counted n more at one step
+pub learn_some : (h h' : Rack) (k : DriverOk h) (m' : Me Slot View) (slots n : ℕ) (e : Event) → Counting Driver n e → slots ≡ h.size → counted Driver slots e n h.seat.me m'
+    → h'.seat.table_id ≡ h.seat.table_id → h'.seat.me.0 ≡ m'.0 → h'.seat.me.1 ≡ spin n m'.1 → h'.size ≡ h.size → h'.first ≡ h.first → h'.put ≡ h.put → h'.bare ≡ h.bare → h'.left ≡ h.left + n
+    → DriverOk h' × Learns (driver_of h) n (driver_of h') × Grew Driver (seen_of h) (seen_of h') e
+learn_some h h' k m' slots n e counting slots_is told id me0 me1 size first put bare left =
+    let told' : counted Driver h.size e n h.seat.me m' = subst (λ (z : ℕ). counted Driver z e n h.seat.me m') slots_is told in
+    let a : List Event = seen_of h in
+    let seen' : List Event = m'.0.seen in
+    let t = k.total in let l = k.rack.left in let b = k.bare in
+    let o = told'.2 in let o0 = o.told in let o1 = o.done in let o2 = o.heard in let o3 = o.within in
+    let more = counting.more in
+    let kn : known Driver seen' ≡ known Driver a + n = let g = grew_known Driver a seen' e told'.1 in omega arith in
+    let sn : length (sent Driver seen') ≡ length (sent Driver a) = ap length (quiet_sent Driver a seen' n e counting told'.1) in
+    let fits : (h'.put + h'.bare) + h'.left ≤ h.size = omega arith in
+    let turn : (xs : List Slot) → laid h.size (known Driver a) xs ≡ laid h.size (length (sent Driver a) + ((h.put + h.bare) + h.left)) xs =
+    λ xs. sym (laid_shift h.size (known Driver a) xs) ∙ ap (λ (z : ℕ). laid h.size z xs) (let g : known Driver a + h.size ≡ length (sent Driver a) + ((h.put + h.bare) + h.left) = omega arith in g) in
+    let d = count_done Driver h k.rack n e counting turn m' told' h' me0 me1 (ap (λ z. z.slots) id ∙ k.rack.size) size first put bare left fits in
+    let es : seen_of h' ≡ seen' = ap (λ (z : View). z.seen) me0 in
+    let w : Grew Driver a (seen_of h') e = d.2 in
+    let kn' : known Driver (seen_of h') ≡ known Driver a + n = let g = grew_known Driver a (seen_of h') e w in omega arith in
+    let sn' : length (sent Driver (seen_of h')) ≡ length (sent Driver a) = ap length (quiet_sent Driver a (seen_of h') n e counting w) in
+    let back : taken Driver h' ≡ taken Driver h = omega arith in (
+      record {
+        rack = d.0;
+        total = omega arith;
+        bare = omega arith;
+        lawful = subst (λ (z : ℕ × List Event). IsLawful z.0 z.1) (λ i. (sym size i, sym es i)) told'.3;
+        short = subst (IsShort 0) (sym d.1) k.short;
+      },
+      record {
+        goes_on = grew_prefix Driver a (seen_of h') e w;
+        same = λ i. record { ring = id i; seen = seen_of h'; pending = d.1 i; back = back i };
+        own_steps = only_one Driver a (seen_of h') n e counting w;
+        rings_not = quiet_sent Driver a (seen_of h') n e counting w;
+        more = kn';
+      },
+      w,
+    )
+
+pub learns_not : (a : DriverSees) → Learns a 0 a
+learns_not a = record { goes_on = ([], append-nil a.seen); same = refl; own_steps = only_none Driver a.seen; rings_not = refl; more = omega arith }
+
+pub learns_on : (a b c : DriverSees) (n m : ℕ) → Learns a n b → Learns b m c → Learns a (n + m) c
+learns_on a b c n m u v = let x = u.more in let y = v.more in record {
+  goes_on = prefix_trans a.seen b.seen c.seen u.goes_on v.goes_on;
+  same = v.same ∙ ap (λ (z : DriverSees). record z { seen = c.seen }) u.same;
+  own_steps = only_trans Driver a.seen b.seen c.seen u.own_steps v.own_steps;
+  rings_not = v.rings_not ∙ u.rings_not;
+  more = omega arith;
+}
+
+-- a driver can't count as many as there are slots
+pub learns_few : (a b : DriverSees) (n : ℕ) → Learns a n b → IsDriver a → IsDriver b → n < a.ring.slots
+learns_few a b n u ka kb =
+    let p = ka.lawful.order a.seen ([], append-nil a.seen) in let q = kb.lawful.order b.seen ([], append-nil b.seen) in
+    let x = u.more in let y = ap length u.rings_not in let w = p.within in let q0 = q.told in let q1 = q.done in let q2 = q.heard in omega arith
 
 pub reclaims_ok : (h h' : Rack) (k : DriverOk h) → IsRack Driver h' → SameSeat h.seat h'.seat → placed h' ≡ placed h
     → h'.put ≡ h.put → h'.bare ≡ h.bare + 1 → h'.left + 1 ≡ h.left → h'.size ≡ h.size → DriverOk h'

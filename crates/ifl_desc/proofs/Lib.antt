@@ -12,5 +12,13 @@ pub mod TurnSteps
 pub mod PortSteps
 pub mod DriverCalls
 pub mod DeviceCalls
+pub mod AnyTie
 pub mod Meeting
 pub mod Closing
+pub mod Framing
+pub mod Looking
+pub mod Lengths
+pub mod Prefixes
+pub mod Splitting
+pub mod Posting
+pub mod DeviceCounts

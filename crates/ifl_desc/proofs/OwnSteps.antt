@@ -6,21 +6,21 @@ use mathlib.Core.List.{IsPrefix}
 use native.Mathlib.Decide.{dec_le}
 use Rattle.std.proofs.Math.Nat.{mod-add-mod, add-mod_right}
 use Rattle.std.specs.Prelude.{Some, None}
-use Rattle.atomic_table.specs.Table.{Me, step, Allows}
+use Rattle.atomic_table.specs.Table.{Me, Step, step, Allows}
 use Rattle.ifl_desc.specs.declared.desc.Desc.{Desc}
 use Rattle.ifl_desc.specs.declared.history.Side.{Side}
 use Rattle.ifl_desc.specs.declared.history.Side.TheVariants.{Driver, Device}
 use Rattle.ifl_desc.specs.declared.history.Event.{Event}
-use Rattle.ifl_desc.specs.declared.history.Event.TheVariants.{Sent, Looked}
+use Rattle.ifl_desc.specs.declared.history.Event.TheVariants.{Sent, Looked, Cleared}
 use Rattle.ifl_desc.specs.declared.history.View.{View}
 use Rattle.ifl_desc.specs.declared.rack.Rack.{Rack}
-use Rattle.ifl_desc.specs.History.{other, sent, known, own}
+use Rattle.ifl_desc.specs.History.{other, sent_in, sent, known, own}
 use Rattle.ifl_desc.specs.Frames.{IsFine}
 use Rattle.ifl_desc.specs.Rule.{Slot, laid, view, InOrder, Tied}
-use Rattle.ifl_desc.specs.Plays.{distance, valued, pushed, pulled}
+use Rattle.ifl_desc.specs.Plays.{distance, valued, further, pushed_by, pushed, counted, pulled}
 use Rattle.ifl_desc.specs.Calls.{Grew}
 use Rattle.ifl_desc.specs.Rack.{IsRack, placed, seen_of, ahead}
-use Rattle.ifl_desc.proofs.Steps.{Fits, sent_append, known_append, own_append, same_known, tells}
+use Rattle.ifl_desc.proofs.Steps.{Fits, Lies, Counting, looked_counts, sent_append, known_append, own_append, same_known, tells}
 use Rattle.ifl_desc.proofs.Allowed.{Has, pushing, pulling}
 use Rattle.ifl_desc.proofs.Rows.{laid_append, laid_length, placed_is, map_length}
 use Rattle.ifl_desc.proofs.Racks.{known_there}
@@ -91,18 +91,17 @@ module _ (r : Side) (h : Rack) (k : IsRack r h) where
   me_is : h.seat.me ≡ me
   me_is = λ i. (k.role i, (k.rack ∙ laid_append S a (map Some p) R) i)
 
-  pub rack_pushes : (tie : List ℕ → List Event → Type 0) (id i new : ℕ) → h.put < S → Fits S r seen h.put → IsFine (Sent r p) → new ≡ (a + h.put) % S
+  pub rack_pushes_by : (many : Step Slot → List Event → ℕ) (tie : List ℕ → List Event → Type 0) (id i new : ℕ) → many (step S i new 0 none) seen ≡ h.put → Fits S r seen h.put → IsFine (Sent r p)
       → ((ws : List ℕ) (g : List Event) → Has r seen g → InOrder S g → tie ws g → tie (set ws i new) (g ++ Sent r p ∷ []))
-      → Allows (Tied S tie) S id h.seat.me i (λ _. new) (λ _ m'. pushed r (step S i new 0 none) h.seat.me new m')
-  rack_pushes tie id i new short fits fine word shows =
-      let T : Mine → Type 0 = λ m. Allows (Tied S tie) S id m i (λ _. new) (λ _ m'. pushed r (step S i new 0 none) m new m') in
-      let n : ℕ = distance S a new in
-      let n_is : n ≡ h.put = ap (distance S a) word ∙ distance_is S a h.put k.some short in
+      → Allows (Tied S tie) S id h.seat.me i (λ _. new) (λ _ m'. pushed_by many r (step S i new 0 none) h.seat.me new m')
+  rack_pushes_by by tie id i new n_is fits fine shows =
+      let T : Mine → Type 0 = λ m. Allows (Tied S tie) S id m i (λ _. new) (λ _ m'. pushed_by by r (step S i new 0 none) m new m') in
+      let n : ℕ = by (step S i new 0 none) seen in
       let fits' : Fits S r seen (length p) = subst (Fits S r seen) (sym k.many) fits in
       let rack : laid S a (map Some p) ++ c ≡ laid S a (map Some p ++ R) = sym (laid_append S a (map Some p) R) in
       let list : p ≡ valued (take n (laid S a (map Some p) ++ c)) = sym (placed_is S a n p R (laid S a (map Some p) ++ c) (k.many ∙ sym n_is) rack) in
       let many : length (laid S a (map {A = Desc} {B = Slot} Some p)) ≡ n = laid_length S a (map Some p) ∙ map_length p ∙ k.many ∙ sym n_is in
-      subst T (sym me_is) (pushing S tie id r seen p c i new (λ _ m'. pushed r (step S i new 0 none) me new m') fits' fine shows
+      subst T (sym me_is) (pushing S tie id r seen p c i new (λ _ m'. pushed_by by r (step S i new 0 none) me new m') fits' fine shows
       (λ x g has order all. (refl, grew r seen g (Sent r p) (Sent r (valued (take n (laid S a (map Some p) ++ c)))) has (ap (Sent r) list), order, all, sym (dropped n (laid S a (map Some p)) c many))))
     where
       dropped : (n : ℕ) (x y : List (ℕ × Slot)) → length x ≡ n → drop n (x ++ y) ≡ y
@@ -110,6 +109,11 @@ module _ (r : Side) (h : Rack) (k : IsRack r h) where
       dropped zero (u ∷ x) y e = absurd (omega arith)
       dropped (suc n) [] y e = absurd (omega arith)
       dropped (suc n) (u ∷ x) y e = dropped n x y (omega arith)
+
+  pub rack_pushes : (tie : List ℕ → List Event → Type 0) (id i new : ℕ) → h.put < S → Fits S r seen h.put → IsFine (Sent r p) → new ≡ (a + h.put) % S
+      → ((ws : List ℕ) (g : List Event) → Has r seen g → InOrder S g → tie ws g → tie (set ws i new) (g ++ Sent r p ∷ []))
+      → Allows (Tied S tie) S id h.seat.me i (λ _. new) (λ _ m'. pushed r (step S i new 0 none) h.seat.me new m')
+  rack_pushes tie id i new short fits fine word shows = rack_pushes_by (further r) tie id i new (ap (distance S a) word ∙ distance_is S a h.put k.some short) fits fine shows
 
   few : (r : Side) (g : List Event) → InOrder S g → length (sent (other r) g) - known r g < S
   few Driver g o = let x = o.told in let y = o.done in let z = o.heard in let w = o.within in omega arith
@@ -120,7 +124,7 @@ module _ (r : Side) (h : Rack) (k : IsRack r h) where
       → Allows (Tied S tie) S id h.seat.me i (λ x. x) (λ x m'. pulled r (step S i 0 0 none) h.seat.me x m')
   rack_pulls tie id i shows =
       let T : Mine → Type 0 = λ m. Allows (Tied S tie) S id m i (λ x. x) (λ x m'. pulled r (step S i 0 0 none) m x m') in
-      subst T (sym me_is) (pulling S tie id r seen (laid S a (map Some p) ++ c) i (λ x. x) (λ x m'. pulled r (step S i 0 0 none) me x m')
+      subst T (sym me_is) (pulling S tie id r seen (laid S a (map Some p) ++ c) i (λ x. x) (Looked r) (looked_counts r) (λ x m'. pulled r (step S i 0 0 none) me x m')
       (λ ws g has order f.
       let list : List Desc = sent (other r) g in
       let x : ℕ = length list - known r g in
@@ -144,6 +148,37 @@ module _ (r : Side) (h : Rack) (k : IsRack r h) where
         ),
       )))
 
+  -- a step that counts as many as the words show, which may be fewer than are there
+  pub rack_counts : (tie : List ℕ → List Event → Type 0) (id i : ℕ) (f : ℕ → ℕ) (ev : ℕ → Event) (counting : (n : ℕ) → Counting r n (ev n)) (then : ℕ → Mine → Type 0)
+      → ((ws : List ℕ) (g : List Event) → Has r seen g → InOrder S g → tie ws g
+      → (n : ℕ) × Lies r g n × tie (set ws i (f (get_or ws i 0))) (g ++ ev n ∷ []) × ((m' : Mine) → m'.0.seen ≡ g ++ ev n ∷ [] → counted r S (ev n) n h.seat.me m' → then (get_or ws i 0) m'))
+      → Allows (Tied S tie) S id h.seat.me i f then
+  rack_counts tie id i f ev counting then goes =
+      let T : Mine → Type 0 = λ m. Allows (Tied S tie) S id m i f then in
+      let rest : List (ℕ × Slot) = laid S a (map Some p) ++ c in
+      subst T (sym me_is) (pulling S tie id r seen rest i f ev counting then
+      (λ ws g has order shown.
+      let got = goes ws g has order shown in
+      let n : ℕ = got.0 in
+      let e : Event = ev n in
+      let same : known r seen ≡ known r g = same_known r seen g has.1 in
+      let list : sent (other r) (g ++ e ∷ []) ≡ sent (other r) g = counted_sent (other r) g n e (counting n) in
+      let m' : Mine = (view r (g ++ e ∷ []), laid S (known r seen) (map Some (take n (drop (known r g) (sent (other r) g)))) ++ rest) in (
+        n,
+        got.1,
+        got.2,
+        λ order' all. got.3 m' refl (subst (λ (z : Mine). counted r S e n z m') (sym me_is) (
+          refl,
+          grew r seen g e e has refl,
+          order',
+          all,
+          (λ j. laid S (known r seen) (map Some (take n (drop (sym same j) (sym list j)))) ++ rest),
+        )),
+      )))
+    where
+      counted_sent : (q : Side) (g : List Event) (n : ℕ) (e : Event) → Counting r n e → sent q (g ++ e ∷ []) ≡ sent q g
+      counted_sent q g n e u = sent_append q g (e ∷ []) ∙ ap (λ (z : List Desc). sent q g ++ z) (append-nil (sent_in q e) ∙ u.quiet q) ∙ append-nil (sent q g)
+
 no_event : {e : Event} {u : List Event} → e ∷ u ≡ [] → ⊥
 no_event {e} {u} p = let l : suc (length u) ≡ 0 = ap length p in omega arith
 
@@ -154,6 +189,7 @@ own_none (Sent Driver ds ∷ u) a b = absurd (no_event a)
 own_none (Sent Device ds ∷ u) a b = absurd (no_event b)
 own_none (Looked Driver n ∷ u) a b = absurd (no_event a)
 own_none (Looked Device n ∷ u) a b = absurd (no_event b)
+own_none (Cleared n ∷ u) a b = absurd (no_event a)
 
 -- a beginning with all of both sides' steps is the whole history
 pub all_seen : (s log : List Event) → IsPrefix s log → own Driver s ≡ own Driver log → own Device s ≡ own Device log → s ≡ log

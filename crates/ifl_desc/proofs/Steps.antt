@@ -12,11 +12,11 @@ use Rattle.ifl_desc.specs.declared.desc.Desc.{Desc}
 use Rattle.ifl_desc.specs.declared.history.Side.{Side}
 use Rattle.ifl_desc.specs.declared.history.Side.TheVariants.{Driver, Device}
 use Rattle.ifl_desc.specs.declared.history.Event.{Event}
-use Rattle.ifl_desc.specs.declared.history.Event.TheVariants.{Sent, Looked}
+use Rattle.ifl_desc.specs.declared.history.Event.TheVariants.{Sent, Looked, Cleared}
 use Rattle.ifl_desc.specs.declared.history.Role.{Role}
 use Rattle.ifl_desc.specs.declared.history.Role.TheVariants.{Whole, Full, End, Note, Closing}
 use Rattle.ifl_desc.specs.declared.history.View.{View}
-use Rattle.ifl_desc.specs.History.{other, sent_in, known_in, own_in, sent, known, own}
+use Rattle.ifl_desc.specs.History.{other, sent_in, known_in, own_in, sent, known, own, IsLook}
 use Rattle.ifl_desc.specs.Frames.{IsFine, AllFine}
 use Rattle.ifl_desc.specs.Rule.{Slot, RingState, takes_all, view, InOrder, IsLawful, Acts, Knows, Tied}
 use Rattle.atomic_table.specs.Table.{homes_after}
@@ -39,20 +39,24 @@ sent_of_own Driver (Sent Driver ds) = append-nil ds
 sent_of_own Driver (Sent Device ds) = refl
 sent_of_own Driver (Looked Driver n) = refl
 sent_of_own Driver (Looked Device n) = refl
+sent_of_own Driver (Cleared n) = refl
 sent_of_own Device (Sent Driver ds) = refl
 sent_of_own Device (Sent Device ds) = append-nil ds
 sent_of_own Device (Looked Driver n) = refl
 sent_of_own Device (Looked Device n) = refl
+sent_of_own Device (Cleared n) = refl
 
 known_of_own : (r : Side) (e : Event) → known r (own_in r e) ≡ known_in r e
 known_of_own Driver (Sent Driver ds) = refl
 known_of_own Driver (Sent Device ds) = refl
 known_of_own Driver (Looked Driver n) = omega arith
 known_of_own Driver (Looked Device n) = refl
+known_of_own Driver (Cleared n) = omega arith
 known_of_own Device (Sent Driver ds) = refl
 known_of_own Device (Sent Device ds) = refl
 known_of_own Device (Looked Driver n) = refl
 known_of_own Device (Looked Device n) = omega arith
+known_of_own Device (Cleared n) = refl
 
 -- what a side sent and knows is told by its own steps
 pub sent_own : (r : Side) (h : List Event) → sent r (own r h) ≡ sent r h
@@ -180,12 +184,42 @@ order_push S h Device ds o f = let e : Event = Sent Device ds in let a = tells D
     let x = o.told in let y = o.done in let z = o.heard in let w = o.within in
     record { told = omega arith; done = omega arith; heard = omega arith; within = omega arith }
 
-pub order_pull : (S : ℕ) (h : List Event) (r : Side) (n : ℕ) → InOrder S h → Lies r h n → InOrder S (h ++ Looked r n ∷ [])
-order_pull S h Driver n o f = let e : Event = Looked Driver n in let a = tells Driver h e in let b = count Device h e in let c = tells Device h e in let d = count Driver h e in
-    let x = o.told in let y = o.done in let z = o.heard in let w = o.within in
+-- a step at which the side r counts n more of the other side's, and sends nothing
+pub record Counting (r : Side) (n : ℕ) (e : Event) : Type 0 where
+  pub is : Is r e
+  pub look : IsLook r e
+  pub quiet : (q : Side) → sent_in q e ≡ []
+  pub more : known_in r e ≡ n
+  pub none : known_in (other r) e ≡ 0
+  pub fine : IsFine e
+
+quiet_look : (r q : Side) (n : ℕ) → sent_in q (Looked r n) ≡ []
+quiet_look r Driver n = refl
+quiet_look r Device n = refl
+
+quiet_clear : (n : ℕ) (q : Side) → sent_in q (Cleared n) ≡ []
+quiet_clear n Driver = refl
+quiet_clear n Device = refl
+
+pub looked_counts : (r : Side) (n : ℕ) → Counting r n (Looked r n)
+looked_counts Driver n = record { is = (refl, refl); look = tt; quiet = λ q. quiet_look Driver q n; more = refl; none = refl; fine = tt }
+looked_counts Device n = record { is = (refl, refl); look = tt; quiet = λ q. quiet_look Device q n; more = refl; none = refl; fine = tt }
+
+pub cleared_counts : (n : ℕ) → Counting Driver n (Cleared n)
+cleared_counts n = record { is = (refl, refl); look = tt; quiet = quiet_clear n; more = refl; none = refl; fine = tt }
+
+alike : (r q : Side) (n : ℕ) (e : Event) → Counting r n e → known_in q e ≡ known_in q (Looked r n)
+alike Driver Driver n e k = k.more
+alike Driver Device n e k = k.none
+alike Device Driver n e k = k.none
+alike Device Device n e k = k.more
+
+pub order_pull : (S : ℕ) (h : List Event) (r : Side) (n : ℕ) (e : Event) → Counting r n e → InOrder S h → Lies r h n → InOrder S (h ++ e ∷ [])
+order_pull S h Driver n e k o f = let a = tells Driver h e in let b = count Device h e in let c = tells Device h e in let d = count Driver h e in
+    let x = o.told in let y = o.done in let z = o.heard in let w = o.within in let m = k.more in let u = k.none in let p = ap length (k.quiet Driver) in let q = ap length (k.quiet Device) in
     record { told = omega arith; done = omega arith; heard = omega arith; within = omega arith }
-order_pull S h Device n o f = let e : Event = Looked Device n in let a = tells Driver h e in let b = count Device h e in let c = tells Device h e in let d = count Driver h e in
-    let x = o.told in let y = o.done in let z = o.heard in let w = o.within in
+order_pull S h Device n e k o f = let a = tells Driver h e in let b = count Device h e in let c = tells Device h e in let d = count Driver h e in
+    let x = o.told in let y = o.done in let z = o.heard in let w = o.within in let m = k.more in let u = k.none in let p = ap length (k.quiet Driver) in let q = ap length (k.quiet Device) in
     record { told = omega arith; done = omega arith; heard = omega arith; within = omega arith }
 
 -- a number of one window with a + k for k < n, and none of these
@@ -308,17 +342,14 @@ module _ (S : ℕ) (h : List Event) (homes : Homes Slot) (o : InOrder S h) (pos 
   gone Device Device n lies i d le e = let b = at_below (sent Device h) i d e in let x = o.told in let y = o.done in let z = o.heard in let w = o.within in
       far S (known Driver h) (known Device h) n i (omega arith) (omega arith) (omega arith) (omega arith) (inl (omega arith))
 
-  same_list : (r q : Side) (n : ℕ) → sent q (h ++ Looked r n ∷ []) ≡ sent q h
-  same_list r q n = sent_append q h (Looked r n ∷ []) ∙ ap (λ (z : List Desc). sent q h ++ z) (none_sent r q n) ∙ append-nil (sent q h)
-    where
-      none_sent : (r q : Side) (n : ℕ) → sent_in q (Looked r n) ++ [] ≡ []
-      none_sent r Driver n = refl
-      none_sent r Device n = refl
+  same_list : (r q : Side) (n : ℕ) (ev : Event) → Counting r n ev → sent q (h ++ ev ∷ []) ≡ sent q h
+  same_list r q n ev k = sent_append q h (ev ∷ []) ∙ ap (λ (z : List Desc). sent q h ++ z) (append-nil (sent_in q ev) ∙ k.quiet q) ∙ append-nil (sent q h)
 
-  pub pull_home : (r : Side) (n : ℕ) → Lies r h n → (c : List (ℕ × Slot)) → AtHome S (h ++ Looked r n ∷ []) (homes_after homes c (takes_all S (known r h) (map Some (news r h n))))
-  pull_home r n lies c q i d le e =
-      let t = tells (other q) h (Looked r n) in
-      let e0 : get_elem? (sent q h) i ≡ some d = ap (λ (z : List Desc). get_elem? z i) (sym (same_list r q n)) ∙ e in
+  pub pull_home : (r : Side) (n : ℕ) (ev : Event) → Counting r n ev → Lies r h n → (c : List (ℕ × Slot)) → AtHome S (h ++ ev ∷ []) (homes_after homes c (takes_all S (known r h) (map Some (news r h n))))
+  pull_home r n ev k lies c q i d le e =
+      let t = tells (other q) h ev in
+      let as_look = alike r (other q) n ev k in
+      let e0 : get_elem? (sent q h) i ≡ some d = ap (λ (z : List Desc). get_elem? z i) (sym (same_list r q n ev k)) ∙ e in
       let le0 : known (other q) h + known_in (other q) (Looked r n) ≤ i = omega arith in
       let le1 : known (other q) h ≤ i = omega arith in
       let m : Misses S (known r h) (length (map Some (news r h n))) (i % S) = subst (λ (z : ℕ). Misses S (known r h) z (i % S)) (sym (news_length r h n lies)) (gone r q n lies i d le0 e0) in

@@ -1,10 +1,11 @@
 -- What a contract sees of the two ends of a ring.
 use Rattle.std.specs.Prelude.{◌≡◌, ℕ, ◌+◌, ◌-◌, ◌<◌, ◌≤◌, List, [], length}
+use mathlib.Core.List.{IsPrefix}
 use Rattle.atomic_table.specs.Seated.{TableId}
 use Rattle.ifl_desc.specs.declared.desc.Desc.{Desc}
 use Rattle.ifl_desc.specs.declared.history.Side.TheVariants.{Driver, Device}
 use Rattle.ifl_desc.specs.declared.history.Event.{Event}
-use Rattle.ifl_desc.specs.History.{sent, known}
+use Rattle.ifl_desc.specs.History.{sent, known, own}
 use Rattle.ifl_desc.specs.Frames.{IsShort, IsBegun}
 use Rattle.ifl_desc.specs.Rule.{IsLawful}
 
@@ -21,6 +22,22 @@ pub record DeviceSees : Type 0 where
   pub seen : List Event
   pub fetched : ℕ  -- how many were taken off the ring
   pub ready : List Desc  -- completed, and not returned yet
+
+-- the five lengths of a list: how many of its descriptors were reclaimed, returned, fetched, rung and posted
+pub record Lengths : Type 0 where
+  pub back : ℕ
+  pub returned : ℕ
+  pub fetched : ℕ
+  pub rung : ℕ
+  pub posted : ℕ
+
+-- back <= returned <= fetched <= rung <= posted, and posted - back <= S - 1: one slot of the S stays free
+pub record AreInOrder (S : ℕ) (l : Lengths) : Type 0 where
+  pub returned : l.back ≤ l.returned
+  pub fetched : l.returned ≤ l.fetched
+  pub rung : l.fetched ≤ l.rung
+  pub posted : l.rung ≤ l.posted
+  pub free : l.posted < l.back + S
 
 -- how many the driver has posted
 abbrev pub posted : DriverSees → ℕ
@@ -55,6 +72,19 @@ pub record IsDevice (d : DeviceSees) : Type 0 where
   pub begun : IsBegun d.ready
   pub after : length (sent Device d.seen) + length d.ready ≤ d.fetched
   pub within : d.fetched ≤ known Device d.seen
+
+-- the two ends of a ring of size S with this history: each has seen a beginning of it that holds all of its own steps
+pub record AreEndsOf (S : ℕ) (h : List Event) (d : DriverSees) (v : DeviceSees) : Type 0 where
+  pub lawful : IsLawful S h
+  pub size : d.ring.slots ≡ S
+  pub of_driver : IsPrefix d.seen h
+  pub driver_own : own Driver d.seen ≡ own Driver h
+  pub of_device : IsPrefix v.seen h
+  pub device_own : own Device v.seen ≡ own Device h
+
+-- the lengths of their list
+abbrev pub lengths_at : List Event → DriverSees → DeviceSees → Lengths
+lengths_at h d v = record { back = d.back; returned = length (sent Device h); fetched = v.fetched; rung = length (sent Driver h); posted = posted d }
 
 -- the ends of a new ring
 abbrev pub IsNewDriver : TableId → DriverSees → Type 0

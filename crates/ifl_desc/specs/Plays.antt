@@ -26,10 +26,22 @@ valued ((k, None) ∷ c) = valued c
 abbrev pub Mine : Type 0
 Mine = Me Slot View
 
--- a store, which hands the first slots home: as many as the new word lies ahead
-abbrev pub pushed : Side → Step Slot → Mine → ℕ → Mine → Type 0
-pushed r st m x m' = let n : ℕ = distance st.slots (length (sent r m.0.seen)) st.first in
+-- a store, which hands the first slots home: as many as `many` says of the step
+abbrev pub pushed_by : (Step Slot → List Event → ℕ) → Side → Step Slot → Mine → ℕ → Mine → Type 0
+pushed_by many r st m x m' = let n : ℕ = many st m.0.seen in
     (m'.0 ≡ view r m'.0.seen) × Grew r m.0.seen m'.0.seen (Sent r (valued (take n m.1))) × InOrder st.slots m'.0.seen × IsLawful st.slots m'.0.seen × (m'.1 ≡ drop n m.1)
+
+-- as many as the new word lies ahead
+abbrev pub further : Side → Step Slot → List Event → ℕ
+further r st seen = distance st.slots (length (sent r seen)) st.first
+
+abbrev pub pushed : Side → Step Slot → Mine → ℕ → Mine → Type 0
+pushed r = pushed_by (further r) r
+
+-- a step e at which the side counts n more of the other side's, and takes their slots
+abbrev pub counted : Side → ℕ → Event → ℕ → Mine → Mine → Type 0
+counted r S e n m m' = (m'.0 ≡ view r m'.0.seen) × Grew r m.0.seen m'.0.seen e × InOrder S m'.0.seen × IsLawful S m'.0.seen
+    × (m'.1 ≡ laid S (known r m.0.seen) (map Some (take n (drop (known r m.0.seen) (sent (other r) m'.0.seen)))) ++ m.1)
 
 -- a load, which takes all that it finds
 abbrev pub pulled : Side → Step Slot → Mine → ℕ → Mine → Type 0
@@ -45,6 +57,10 @@ filled st m x m' = (m'.0 ≡ record { role = Full; seen = []; heard = [] }) × (
 -- a load, after which the seat has seen the whole history so far, what it heard too
 abbrev pub saw : Side → Step Slot → Mine → ℕ → Mine → Type 0
 saw r st m x m' = (m'.0 ≡ view r m'.0.seen) × IsPrefix m.0.seen m'.0.seen × IsPrefix m.0.heard m'.0.seen × (own r m'.0.seen ≡ own r m.0.seen) × InOrder st.slots m'.0.seen × IsLawful st.slots m'.0.seen × (m'.1 ≡ m.1)
+
+-- a load, after which the seat has seen what it heard, where that goes on from what it had seen: with steps of the other side alone
+abbrev pub caught : Side → Step Slot → Mine → ℕ → Mine → Type 0
+caught r st m x m' = (m'.0 ≡ view r m.0.heard) × (own r m.0.heard ≡ own r m.0.seen) × InOrder st.slots m.0.heard × IsLawful st.slots m.0.heard × (m'.1 ≡ m.1)
 
 -- a load at which the device gives back all that it holds
 abbrev pub retired : Step Slot → Mine → ℕ → Mine → Type 0

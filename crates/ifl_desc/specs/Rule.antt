@@ -1,5 +1,5 @@
 -- The rule of a ring of size S, whatever words it has: `tie` says what its words show of the history.
-use Rattle.std.specs.Prelude.{◌≡◌, ℕ, zero, suc, ◌+◌, ◌%◌, ◌<◌, ◌≤◌, List, [], ◌∷◌, length, Option, Some, None}
+use Rattle.std.specs.Prelude.{◌≡◌, ℕ, zero, suc, ◌+◌, ◌%◌, ◌<◌, ◌≤◌, List, [], ◌∷◌, length, slice_index, slice_set, Option, Some, None}
 use mathlib.Core.Option.{some}
 use mathlib.Core.Option as maybe
 use mathlib.Core.List.{IsPrefix}
@@ -72,6 +72,11 @@ module _ (S : ℕ) (log : List Event) (homes : List (maybe.Option Slot)) where
   Knows Note seen = IsPrefix seen log
   Knows (Closing g) seen = IsPrefix seen log × (own Driver seen ≡ own Driver log) × IsPrefix g log × (own Device g ≡ own Device log)
 
+-- a word that is stored as it was changes nothing of what the words show
+abbrev pub StaysTied : (List ℕ → List Event → Type 0) → Type 0
+StaysTied tie = (i : ℕ) (words : List ℕ) (h : List Event) → tie words h → tie (slice_set words i (slice_index words i)) h
+
+-- the rule: the words show the one history, each entry that neither end holds is at home in its slot, and each seat has seen a beginning of the history
 pub record Tied (S : ℕ) (tie : List ℕ → List Event → Type 0) (s : RingState) : Type 0 where
   pub log : List Event
   pub who : Side → ℕ

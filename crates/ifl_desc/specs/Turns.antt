@@ -9,12 +9,15 @@ pub record TurnstileId (O : Type 0) : Type 0 where
   pub table : TableId
   pub origin : Option O
 
--- whose seat it is, its part, whether it has the turn, and how often it found the turn taken
-pub record TurnState (O : Type 0) : Type 0 where
+-- whose seat it is, its part, whether it has the turn, how many of its exchanges took the turn and how many found it taken, and the values that it took and gave back last
+pub record TurnState (E O : Type 0) : Type 0 where
   pub turnstile : TurnstileId O
   pub part : ℕ
   pub held : Bool
+  pub turns : ℕ
   pub looks : ℕ
+  pub found : Option E
+  pub left : Option E
 
 -- the slot is out, and empty, exactly with the seat that has the turn
 abbrev pub slots_of : {E : Type 0} → Bool → List (ℕ × Option E)
@@ -22,6 +25,6 @@ slots_of true = (0, None) ∷ []
 slots_of false = []
 
 -- what every seat keeps
-pub record IsTurnSeat {E O : Type 0} (me : Me (Option E) (TurnView O)) : Type 0 where
+pub record IsTurnSeat {E O : Type 0} (me : Me (Option E) (TurnView E O)) : Type 0 where
   pub part : 0 < me.0.part
   pub slots : me.1 ≡ slots_of me.0.holds

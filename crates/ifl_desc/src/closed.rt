@@ -20,5 +20,6 @@ pub trait ClosedList: Send + Drop {
 
     /// The same, to be owned.
     fn into_left(self) -> Vec<Desc>
-        ensures { result.items ≡ left_of (closed_sees self) };
+        ensures left { result.items ≡ left_of (closed_sees self) }
+        ensures lawful { IsClosed (closed_sees self) };
 }

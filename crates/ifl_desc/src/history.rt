@@ -10,10 +10,12 @@ pub enum Side {
     Device,
 }
 
-/// A step that a side made: it sent these, or it looked and found so many more.
+/// A step that a side made: it sent these, or it looked and found so many more, or the driver cleared a status word
+/// and counted so many.
 pub enum Event {
     Sent(Side, LinkedList<Desc>),
     Looked(Side, u64),
+    Cleared(u64),
 }
 
 /// What a seat of the ring's table is for.

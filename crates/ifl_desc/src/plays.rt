@@ -87,12 +87,12 @@ impl Play<Option<Desc>, View> for DriverSaw {
     ghost then = { saw Driver };
 }
 
-/// The device does the same.
-pub struct DeviceSaw;
+/// The device looks, and has seen what the driver had seen whose note was joined to its seat.
+pub struct DeviceCatchesUp;
 
-impl Play<Option<Desc>, View> for DeviceSaw {
+impl Play<Option<Desc>, View> for DeviceCatchesUp {
     ghost use Rattle.ifl_desc.specs.declared.history.Side.TheVariants.{Device};
-    ghost use Rattle.ifl_desc.specs.Plays.{saw};
+    ghost use Rattle.ifl_desc.specs.Plays.{caught};
 
-    ghost then = { saw Device };
+    ghost then = { caught Device };
 }

@@ -54,7 +54,8 @@ impl Remains {
 
     /// The same, to be owned.
     pub fn into_left(self) -> Vec<Desc>
-        ensures { result.items ≡ left_of self }
+        ensures left { result.items ≡ left_of self }
+        ensures lawful { IsClosed self }
     {
         let Remains {
             left,

@@ -41,12 +41,14 @@ pub trait DescRing: Sync + Drop {
     /// It answers `BadSize` exactly where `size` is outside 8 to 32,768.
     fn make(alloc: Global, size: u32) -> Result<(Self, Self::Driver, Self::Device), DescFault>
         ensures ok { IfOk result (λ t. ((ring t.0).slots ≡ size) × (8 ≤ size) × (size ≤ 32768) × IsNewDriver (ring t.0) (driver_sees t.1) × IsNewDevice (ring t.0) (device_sees t.2)) }
+        ensures lawful { IfOk result (λ t. IsDriver (driver_sees t.1) × IsDevice (device_sees t.2)) }
         ensures bad_size { (n : ℕ) → result ≡ Err (BadSize n) → (n ≡ size) × ((size < 8) ⊎ (32768 < size)) }
         ensures refused { (size < 8) ⊎ (32768 < size) → result ≡ Err (BadSize size) };
 
-    /// The number of slots.
+    /// The number of slots, 8 to 32,768.
     fn size(&self) -> u32
-        ensures { result ≡ (ring self.now).slots };
+        ensures number { result ≡ (ring self.now).slots }
+        ensures within { (8 ≤ result) × (result ≤ 32768) };
 
     /// How many more may be posted: the size less one, less those posted and not reclaimed.
     fn avail(&self, end: &Self::Driver) -> u32
@@ -112,7 +114,8 @@ pub trait DescRing: Sync + Drop {
         ensures list { Completes (device_sees end.old) d (device_sees end.new) }
         ensures lawful { IsDevice (device_sees end.new) };
 
-    /// Lets each end hear what the other has seen. The list stays.
+    /// Lets each end hear what the other has seen. The list stays, and both have seen one history from then on, in which
+    /// each side's own steps are those that it had made.
     fn meet(&self, driver: &mut Self::Driver, device: &mut Self::Device)
         requires rings { ((driver_sees driver.old).ring ≡ ring self.now) × ((device_sees device.old).ring ≡ ring self.now) }
         ensures list { Meets (driver_sees driver.old) (device_sees device.old) (driver_sees driver.new) (device_sees device.new) }
@@ -120,6 +123,9 @@ pub trait DescRing: Sync + Drop {
 
     /// Ends the ring with both its ends, once all that was fetched is returned. What is left lies in room that
     /// [`DescRing::make`] took.
+    ///
+    /// The ends look once more before: the device once, and the driver at most once more than it then counts. They make
+    /// no other step.
     fn close(self, driver: Self::Driver, device: Self::Device) -> Self::Closed
         requires rings { ((driver_sees driver).ring ≡ ring self) × ((device_sees device).ring ≡ ring self) }
         requires done { (completed (device_sees device) ≡ (device_sees device).fetched) × ((device_sees device).ready ≡ []) }

@@ -3,6 +3,12 @@ use crate::port::PortState;
 use atomic_table::{Join, Play, Split, TableRule};
 use std::collections::LinkedList;
 
+/// A step on a port: a state was set, or a look found one. No value of it is made.
+pub enum PortEvent {
+    Set(PortState),
+    Found(PortState),
+}
+
 /// What a seat is for.
 pub enum PortRole {
     /// The one seat of a new port.
@@ -11,19 +17,17 @@ pub enum PortRole {
     Reader,
     /// The writer's seat, to which the reader's was joined.
     Both,
+    /// The reader's seat, which was joined to the writer's.
+    Spent,
 }
 
 /// What the rule sees of a seat. No value of it is made.
 pub struct PortView {
     pub role: PortRole,
-    /// The states set that it knows, in order.
-    pub known: LinkedList<PortState>,
-    /// How often it looked.
-    pub loads: u64,
-    /// What it found last.
-    pub found: Option<PortState>,
-    /// What a seat knew that was joined to this one.
-    pub heard: LinkedList<PortState>,
+    /// The beginning of the history that it has seen.
+    pub seen: LinkedList<PortEvent>,
+    /// What a seat had seen that was joined to this one.
+    pub heard: LinkedList<PortEvent>,
 }
 
 /// The rule.
@@ -59,22 +63,21 @@ impl Play<u64, PortView> for Finds {
 pub struct Opens;
 
 impl Split<PortView> for Opens {
-    ghost use Rattle.std.specs.Prelude.{[], None};
+    ghost use Rattle.std.specs.Prelude.{[]};
     ghost use Rattle.ifl_desc.specs.Port.{writer_view, reader_view};
 
     ghost left = { λ _. writer_view [] };
 
-    ghost right = { λ _. reader_view [] 0 None };
+    ghost right = { λ _. reader_view [] };
 }
 
 /// The reader's seat is joined to the writer's.
 pub struct Shuts;
 
 impl Join<PortView> for Shuts {
-    ghost use Rattle.std.specs.Prelude.{[], None};
-    ghost use Rattle.ifl_desc.specs.Port.{both_ends, reader_view};
+    ghost use Rattle.ifl_desc.specs.Port.{both_ends, spent_view};
 
     ghost both = { both_ends };
 
-    ghost spent = { reader_view [] 0 None };
+    ghost spent = { spent_view };
 }

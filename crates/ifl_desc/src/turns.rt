@@ -5,15 +5,21 @@ use std::marker::PhantomData;
 use std::snapshot::Snapshot;
 
 /// What the rule sees of a seat. No value of it is made.
-pub struct TurnView<O> {
+pub struct TurnView<E, O> {
     /// Its part; the parts of all seats add up to `PART`.
     pub part: u64,
     /// It has the turn.
     pub holds: bool,
+    /// How many of its exchanges took the turn.
+    pub turns: u64,
     /// How many of its exchanges found the turn taken.
     pub looks: u64,
     /// With what the turnstile's value was made; a seat that was joined to another has none.
     pub origin: Option<O>,
+    /// The value that it took last.
+    pub found: Option<E>,
+    /// The value that it gave back last.
+    pub left: Option<E>,
 }
 
 /// The rule.
@@ -21,7 +27,7 @@ pub struct Turns<E> {
     kept: PhantomData<E>,
 }
 
-impl<E: Kept> TableRule<Option<E>, TurnView<E::Origin>, Snapshot<E>> for Turns<E> {
+impl<E: Kept> TableRule<Option<E>, TurnView<E, E::Origin>, Snapshot<E>> for Turns<E> {
     ghost use Rattle.ifl_desc.specs.Turning.{Turning, first_view};
 
     ghost holds = { λ key. Turning E.origin (E.origin key.value) };
@@ -34,7 +40,7 @@ pub struct Tries<E> {
     kept: PhantomData<E>,
 }
 
-impl<E: Kept> Play<Option<E>, TurnView<E::Origin>> for Tries<E> {
+impl<E: Kept> Play<Option<E>, TurnView<E, E::Origin>> for Tries<E> {
     ghost use Rattle.ifl_desc.specs.Turning.{tried};
 
     ghost then = { tried E.origin };
@@ -43,7 +49,7 @@ impl<E: Kept> Play<Option<E>, TurnView<E::Origin>> for Tries<E> {
 /// The store that gives the turn.
 pub struct Gives;
 
-impl<E, O> Play<Option<E>, TurnView<O>> for Gives {
+impl<E, O> Play<Option<E>, TurnView<E, O>> for Gives {
     ghost use Rattle.ifl_desc.specs.Turning.{gave};
 
     ghost then = { gave };
@@ -52,7 +58,7 @@ impl<E, O> Play<Option<E>, TurnView<O>> for Gives {
 /// A seat is split.
 pub struct Halves;
 
-impl<O> Split<TurnView<O>> for Halves {
+impl<E, O> Split<TurnView<E, O>> for Halves {
     ghost use Rattle.ifl_desc.specs.Turning.{left_half, right_half};
 
     ghost left = { left_half };
@@ -63,7 +69,7 @@ impl<O> Split<TurnView<O>> for Halves {
 /// Two seats are joined.
 pub struct Adds;
 
-impl<O> Join<TurnView<O>> for Adds {
+impl<E, O> Join<TurnView<E, O>> for Adds {
     ghost use Rattle.ifl_desc.specs.Turning.{both_parts, nobody};
 
     ghost both = { both_parts };

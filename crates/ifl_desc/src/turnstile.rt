@@ -1,5 +1,5 @@
 //! A turnstile: a value that at most one seat has at a time.
-ghost use Rattle.std.specs.Prelude.{◌≡◌, ◌-◌, ◌/◌, ◌+◌, ◌≤◌, true, false, Some, IfOk, IfErr};
+ghost use Rattle.std.specs.Prelude.{◌≡◌, ◌-◌, ◌/◌, ◌+◌, ◌≤◌, true, false, Some, None, IfOk, IfErr};
 ghost use Rattle.ifl_base.specs.declared.limits.TheConstants.{PART};
 
 use crate::turns::{Adds, Gives, Halves, Tries, TurnView, Turns};
@@ -24,7 +24,7 @@ pub trait Kept: Send + Drop {
 /// Each value that it ever holds has the origin of the value with which it was made.
 #[derive(Drop)]
 pub struct Turnstile<E: Kept> {
-    table: Table<Option<E>, TurnView<E::Origin>, Snapshot<E>, Turns<E>, Global>,
+    table: Table<Option<E>, TurnView<E, E::Origin>, Snapshot<E>, Turns<E>, Global>,
 }
 
 impl<E: Kept> Model for Turnstile<E> {
@@ -40,18 +40,18 @@ impl<E: Kept> Model for Turnstile<E> {
 
 /// The leave to take the turn of a turnstile. It has no bytes, and a thread may hand it to another.
 ///
-/// It counts the steps at which it found the turn taken.
+/// It counts the exchanges that took the turn, and those that found it taken.
 #[derive(Drop)]
 pub struct TurnSeat<E: Kept> {
-    seat: Seat<Option<E>, TurnView<E::Origin>>,
+    seat: Seat<Option<E>, TurnView<E, E::Origin>>,
 }
 
 impl<E: Kept> Model for TurnSeat<E> {
     ghost use Rattle.ifl_desc.specs.Turns.{TurnState, IsTurnSeat};
 
-    ghost Value = { TurnState E.Origin };
+    ghost Value = { TurnState E E.Origin };
 
-    ghost view = { λ s. record { turnstile = record { table = s.seat.table_id; origin = s.seat.me.0.origin }; part = s.seat.me.0.part; held = s.seat.me.0.holds; looks = s.seat.me.0.looks } };
+    ghost view = { λ s. record { turnstile = record { table = s.seat.table_id; origin = s.seat.me.0.origin }; part = s.seat.me.0.part; held = s.seat.me.0.holds; turns = s.seat.me.0.turns; looks = s.seat.me.0.looks; found = s.seat.me.0.found; left = s.seat.me.0.left } };
 
     ghost invariant = { λ s. IsTurnSeat s.seat.me };
 }
@@ -67,7 +67,7 @@ impl<E: Kept> Turnstile<E> {
     /// A turnstile that keeps `e`, with the whole seat. Where there is no memory, `e` comes back.
     pub fn new(alloc: Global, e: E) -> Result<(Turnstile<E>, TurnSeat<E>), (NoMemory, E)>
         ensures origin { IfOk result (λ t. t.0.origin ≡ Some (E.origin e)) }
-        ensures whole { IfOk result (λ t. t.1 ≡ record { turnstile = t.0; part = PART; held = false; looks = 0 }) }
+        ensures whole { IfOk result (λ t. t.1 ≡ record { turnstile = t.0; part = PART; held = false; turns = 0; looks = 0; found = None; left = None }) }
         ensures back { IfErr result (λ x. x.1 ≡ e) }
     {
         let key = Snapshot::of(&e);
@@ -94,17 +94,17 @@ impl<E: Kept> Turnstile<E> {
         requires part { 2 ≤ seat.old.part }
         requires free { seat.old.held ≡ false }
         ensures left { seat.new ≡ record seat.old { part = seat.old.part - seat.old.part / 2 } }
-        ensures new { result ≡ record { turnstile = self.now; part = seat.old.part / 2; held = false; looks = 0 } }
+        ensures new { result ≡ record { turnstile = self.now; part = seat.old.part / 2; held = false; turns = 0; looks = 0; found = None; left = None } }
     {
         let other = self.table.shared.split_seat::<Halves>(&mut seat.seat);
         TurnSeat { seat: other }
     }
 
-    /// Ends the other seat: its part and its count are added to those of this one.
+    /// Ends the other seat: its part and its counts are added to those of this one.
     pub fn join(&self, seat: &mut TurnSeat<E>, other: TurnSeat<E>)
         requires own { (seat.old.turnstile ≡ self.now) × (other.turnstile ≡ self.now) }
         requires free { (seat.old.held ≡ false) × (other.held ≡ false) }
-        ensures both { seat.new ≡ record seat.old { part = seat.old.part + other.part; looks = seat.old.looks + other.looks } }
+        ensures both { seat.new ≡ record seat.old { part = seat.old.part + other.part; turns = seat.old.turns + other.turns; looks = seat.old.looks + other.looks } }
     {
         let TurnSeat { seat: spent } = other;
         self.table.shared.join_seat::<Adds>(&mut seat.seat, spent);
@@ -112,11 +112,11 @@ impl<E: Kept> Turnstile<E> {
 
     /// Takes the turn by one exchange, and the value, which the caller owns until it gives it back.
     ///
-    /// It answers `Taken` exactly where the exchange found the turn taken, which the seat counts.
+    /// It answers `Taken` exactly where the exchange found the turn taken. The seat counts the exchange either way.
     pub fn try_turn(&self, seat: &mut TurnSeat<E>) -> Result<E, Taken>
         requires own { seat.old.turnstile ≡ self.now }
         requires free { seat.old.held ≡ false }
-        ensures got { IfOk result (λ e. (self.now.origin ≡ Some (E.origin e)) × (seat.new ≡ record seat.old { held = true })) }
+        ensures got { IfOk result (λ e. (self.now.origin ≡ Some (E.origin e)) × (seat.new ≡ record seat.old { held = true; turns = seat.old.turns + 1; found = Some e })) }
         ensures taken { IfErr result (λ t. (t.seen ≡ 1) × (seat.new ≡ record seat.old { looks = seat.old.looks + 1 })) }
     {
         let seen = self
@@ -137,7 +137,7 @@ impl<E: Kept> Turnstile<E> {
         requires own { seat.old.turnstile ≡ self.now }
         requires held { seat.old.held ≡ true }
         requires origin { self.now.origin ≡ Some (E.origin e) }
-        ensures gave { seat.new ≡ record seat.old { held = false } }
+        ensures gave { seat.new ≡ record seat.old { held = false; left = Some e } }
     {
         let None = self.table.shared.exchange(&mut seat.seat, 0, Some(e)) else {
             unreachable!()

@@ -1,3 +1,1 @@
 pub mod WordSteps
-mod Counts
-mod Posting

@@ -2,27 +2,23 @@
 use Rattle.std.proofs.Common.{◌≡◌, ℕ, zero, suc, ◌+◌, ◌%◌, ◌<◌, ◌≤◌, true, List, [], ◌∷◌, ◌++◌, length, set, get_or, replicate, sym, refl, ap, ◌∙◌, subst, arith, length-set, append-nil, get_or-set_other, get_or-set_same, length-append, mod-eq_of_lt}
 use mathlib.Core.Option.{none}
 use Rattle.std.specs.Prelude.{None}
-use Rattle.atomic_table.specs.Table.{Me, step, opening, Allows, Splits, Joins}
+use Rattle.atomic_table.specs.Table.{step, opening, Allows}
 use Rattle.ifl_desc.specs.declared.desc.Desc.{Desc}
 use Rattle.ifl_desc.specs.declared.history.Side.{Side}
 use Rattle.ifl_desc.specs.declared.history.Side.TheVariants.{Driver, Device}
 use Rattle.ifl_desc.specs.declared.history.Event.{Event}
 use Rattle.ifl_desc.specs.declared.history.Event.TheVariants.{Sent, Looked}
-use Rattle.ifl_desc.specs.declared.history.View.{View}
 use Rattle.ifl_desc.specs.declared.rack.Rack.{Rack}
-use Rattle.ifl_desc.specs.History.{other, sent, known}
+use Rattle.ifl_desc.specs.History.{sent}
 use Rattle.ifl_desc.specs.Frames.{IsFrame, IsSettled, open_after}
-use Rattle.ifl_desc.specs.Rule.{Slot, laid, view}
-use Rattle.ifl_desc.specs.Plays.{pushed, pulled, filled, saw, note, hearing, whole, full, retired, gathered, closing}
+use Rattle.ifl_desc.specs.Rule.{StaysTied}
+use Rattle.ifl_desc.specs.Plays.{pushed, pulled, whole}
 use Rattle.ifl_desc.proofs.DeviceCalls.{frame_of, word₁, short₁, total₁}
-use Rattle.ifl_desc.specs.Rack.{IsRack, SameSeat, placed, ahead, row, seen_of}
+use Rattle.ifl_desc.specs.Rack.{IsRack, SameSeat, placed, seen_of}
 use Rattle.ifl_desc.proofs.Steps.{sent_append, same_sent}
 use Rattle.ifl_desc.proofs.Allowed.{Has}
 use Rattle.ifl_desc.proofs.OwnSteps.{rack_pushes, rack_pulls, looked_sent}
-use Rattle.ifl_desc.proofs.Rows.{laid_length}
-use Rattle.ifl_desc.proofs.Racks.{counted}
-use Rattle.ifl_desc.proofs.Beginning.{starts, fills, parts, notes, joins, sees}
-use Rattle.ifl_desc.proofs.Ending.{retires, ends, gathers}
+use Rattle.ifl_desc.proofs.Beginning.{starts}
 use Rattle.ifl_writeback.specs.Writeback.{WordTie, Holds}
 use Rattle.ifl_desc.specs.Sides.{DriverOk, DeviceOk}
 
@@ -47,15 +43,14 @@ rings h k key slots id new slots_is key_is whole word0 word =
     same : (g : List Event) → Has Driver (seen_of h) g → sent Driver (seen_of h) ≡ sent Driver g
     same g has = same_sent Driver (seen_of h) g has.1
 
--- a word that is stored as it was
-pub same_word : (ws : List ℕ) (i j : ℕ) → get_or (set ws i (get_or ws i 0)) j 0 ≡ get_or ws j 0
+same_word : (ws : List ℕ) (i j : ℕ) → get_or (set ws i (get_or ws i 0)) j 0 ≡ get_or ws j 0
 same_word [] i j = refl
 same_word (w ∷ ws) zero j = refl
 same_word (w ∷ ws) (suc i) zero = refl
 same_word (w ∷ ws) (suc i) (suc j) = same_word ws i j
 
 -- the two words at a load
-pub tie_stays : (S : ℕ) (r : Side) (i n : ℕ) (ws : List ℕ) (g : List Event) → i < 2 → WordTie S ws g → WordTie S (set ws i (get_or ws i 0)) (g ++ Looked r n ∷ [])
+tie_stays : (S : ℕ) (r : Side) (i n : ℕ) (ws : List ℕ) (g : List Event) → i < 2 → WordTie S ws g → WordTie S (set ws i (get_or ws i 0)) (g ++ Looked r n ∷ [])
 tie_stays S r i n ws g lt f = let c = f.count in record {
   count = length-set ws i (get_or ws i 0) ∙ f.count;
   bell = same_word ws i 0 ∙ f.bell ∙ ap (λ (z : List Desc). length z % S) (sym (looked_sent r Driver g n));
@@ -98,50 +93,6 @@ module _ (h h₁ : Rack) (d : Desc) (settled : IsSettled d.status) (k : DeviceOk
 pub opens : (S : ℕ) → 8 ≤ S → Holds S (opening (0 ∷ 0 ∷ []) (replicate S None) whole)
 opens S le = let z : 0 ≡ 0 % S = sym (mod-eq_of_lt (omega arith)) in starts S (WordTie S) (0 ∷ 0 ∷ []) (omega arith) record { count = refl; bell = z; head = z }
 
-tie_same : (S i : ℕ) (ws : List ℕ) (h : List Event) → WordTie S ws h → WordTie S (set ws i (get_or ws i 0)) h
+-- a word that is stored as it was
+pub tie_same : (S : ℕ) → StaysTied (WordTie S)
 tie_same S i ws h f = record { count = length-set ws i (get_or ws i 0) ∙ f.count; bell = same_word ws i 0 ∙ f.bell; head = same_word ws i 1 ∙ f.head }
-
-abbrev pub Mine : Type 0
-Mine = Me Slot View
-
-pub fills_all : (S key slots id : ℕ) (me : Mine) → key ≡ S → slots ≡ S → me ≡ (whole, []) → Allows (Holds key) slots id me 0 (λ n. n) (filled (step slots 0 0 0 none) me)
-fills_all S key slots id me key_is slots_is me_is =
-    let P : ℕ × ℕ × Mine → Type 0 = λ z. Allows (Holds z.0) z.1 id z.2 0 (λ n. n) (filled (step z.1 0 0 0 none) z.2) in
-    subst P (λ i. (sym key_is i, sym slots_is i, sym me_is i)) (fills S (WordTie S) id 0 (λ ws h f. tie_same S 0 ws h f))
-
-pub parts_all : (key id : ℕ) (v : View) → v ≡ full → Splits (Holds key) id v (view Driver []) (view Device [])
-parts_all key id v is = subst (λ (z : View). Splits (Holds key) id z (view Driver []) (view Device [])) (sym is) (parts key (WordTie key) id)
-
-pub notes_of : (key id : ℕ) (r : Side) (v : View) → v ≡ view r v.seen → Splits (Holds key) id v v (note v.seen)
-notes_of key id r v is = subst (λ (z : View). Splits (Holds key) id z z (note v.seen)) (sym is) (notes key (WordTie key) id r v.seen)
-
-pub joins_of : (key id other : ℕ) (v w : View) → w ≡ note w.seen → Joins (Holds key) id v other w (hearing v w) (note [])
-joins_of key id other v w is = subst (λ (z : View). Joins (Holds key) id v other z (hearing v z) (note [])) (sym is) (joins key (WordTie key) id v other w.seen)
-
-pub sees_of : (S key slots id : ℕ) (r : Side) (me : Mine) (h g : List Event) → key ≡ S → slots ≡ S → me.0 ≡ hearing (view r h) (note g) → Allows (Holds key) slots id me 0 (λ n. n) (saw r (step slots 0 0 0 none) me)
-sees_of S key slots id r me h g key_is slots_is is =
-    let P : ℕ × ℕ × View → Type 0 = λ z. Allows (Holds z.0) z.1 id (z.2, me.1) 0 (λ n. n) (saw r (step z.1 0 0 0 none) (z.2, me.1)) in
-    subst P (λ i. (sym key_is i, sym slots_is i, sym is i)) (sees S (WordTie S) id 0 r h g me.1 (λ ws h f. tie_same S 0 ws h f))
-
--- the device gives back all slots that it holds
-pub retires_of : (v : Rack) (k : IsRack Device v) (key slots id : ℕ) → ((v.put + v.bare) + v.left) + length (sent Device (seen_of v)) ≡ known Device (seen_of v) → slots ≡ v.size → key ≡ v.size
-    → Allows (Holds key) slots id v.seat.me 0 (λ n. n) (retired (step slots 0 0 0 none) v.seat.me)
-retires_of v k key slots id total slots_is key_is =
-    let a : ℕ = length (sent Device (seen_of v)) in
-    let xs : List Slot = row (placed v) v.bare (ahead Device (seen_of v) v.left) in
-    let many : length xs ≡ (v.put + v.bare) + v.left = sym (laid_length v.size a xs) ∙ ap length (sym k.rack) ∙ sym (counted Device v k) in
-    let me : v.seat.me ≡ (view Device (seen_of v), laid v.size a xs ++ []) = λ i. (k.role i, (k.rack ∙ sym (append-nil (laid v.size a xs))) i) in
-    let P : ℕ × ℕ × Mine → Type 0 = λ z. Allows (Holds z.0) z.1 id z.2 0 (λ n. n) (retired (step z.1 0 0 0 none) z.2) in
-    subst P (λ i. (sym key_is i, sym slots_is i, sym me i)) (retires v.size (WordTie v.size) id 0 (seen_of v) xs (omega arith) (λ ws h f. tie_same v.size 0 ws h f))
-
--- its seat is joined to the driver's
-pub unites_of : (key id other : ℕ) (d v : View) → d ≡ view Driver d.seen → v ≡ view Device v.seen → Joins (Holds key) id d other v (closing d v) (note [])
-unites_of key id other d v d_is v_is = subst (λ (z : View × View). Joins (Holds key) id z.0 other z.1 (closing z.0 z.1) (note [])) (λ i. (sym d_is i, sym v_is i)) (ends key (WordTie key) id d.seen other v.seen)
-
--- and it looks once more
-pub gathers_of : (S key slots id : ℕ) (me : Mine) (d v : View) → key ≡ S → slots ≡ S → d ≡ view Driver d.seen → v ≡ view Device v.seen → me.0 ≡ closing d v
-    → Allows (Holds key) slots id me 0 (λ n. n) (gathered (step slots 0 0 0 none) me)
-gathers_of S key slots id me d v key_is slots_is d_is v_is is =
-    let P : ℕ × ℕ × View → Type 0 = λ z. Allows (Holds z.0) z.1 id (z.2, me.1) 0 (λ n. n) (gathered (step z.1 0 0 0 none) (z.2, me.1)) in
-    let role : closing (view Driver d.seen) (view Device v.seen) ≡ me.0 = (λ i. closing (sym d_is i) (sym v_is i)) ∙ sym is in
-    subst P (λ i. (sym key_is i, sym slots_is i, role i)) (gathers S (WordTie S) id 0 d.seen v.seen me.1 (λ ws h f. tie_same S 0 ws h f))

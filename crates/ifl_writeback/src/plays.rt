@@ -1,17 +1,14 @@
-//! The rule, and what each step tells. These types are for the proofs alone.
-use atomic_table::{Play, TableRule};
-use ifl_desc::{Desc, View};
+//! What the words show, and what each step tells. These types are for the proofs alone.
+use atomic_table::Play;
+use ifl_desc::{Desc, RingWords, View};
 
-/// The rule of the two words.
+/// The two words.
 pub struct Writeback;
 
-impl TableRule<Option<Desc>, View, u32> for Writeback {
-    ghost use Rattle.ifl_writeback.specs.Writeback.{Holds};
-    ghost use Rattle.ifl_desc.specs.Plays.{whole};
+impl RingWords for Writeback {
+    ghost use Rattle.ifl_writeback.specs.Writeback.{WordTie};
 
-    ghost holds = { Holds };
-
-    ghost first = { λ _. whole };
+    ghost tie = { WordTie };
 }
 
 /// The driver stores the doorbell.

@@ -1,19 +1,16 @@
 //! The ring.
-ghost use Rattle.std.specs.Prelude.{◌≡◌, ◌+◌, ◌≤◌, [], vec_capacity};
-ghost use Rattle.ifl_desc.specs.Plays.{whole};
-ghost use Rattle.ifl_desc.specs.Ends.{IsNewDriver, IsNewDevice};
-ghost use Rattle.ifl_desc.specs.Closed.{HaveMet, Closes, IsClosed};
-
 use crate::closed::WritebackClosed;
 use crate::ends::{WritebackDevice, WritebackDriver};
 use crate::plays::{Hears, Learns, Returns, Rings, Writeback};
 use atomic_table::Table;
 use ifl_desc::{
-    DESC_MAX, DESC_MIN, Desc, DescFault, DescRing, DeviceRetires, DeviceSaw, DriverSaw, EndSeat,
-    Fills, Gathers, Hearing, Notes, OfDevice, OfDriver, Parts, Rack, Remains, Unites, View,
+    DESC_MAX, DESC_MIN, Desc, DescFault, DescRing, OfDevice, OfDriver, Ruled, View, gather,
+    let_meet, new_ends,
 };
 use std::alloc::Global;
 use std::marker::Model;
+
+type Rule = Ruled<Writeback>;
 
 const BELL: usize = 0;
 
@@ -22,7 +19,7 @@ const HEAD: usize = 1;
 /// A ring with a doorbell and a head. A descriptor's slot is its number modulo the size.
 #[derive(Drop)]
 pub struct WritebackRing {
-    table: Table<Option<Desc>, View, u32, Writeback, Global>,
+    table: Table<Option<Desc>, View, u32, Rule, Global>,
     size: u32,
     // Empty, with room for all that may be left, which `close` needs.
     room: Vec<Desc>,
@@ -37,73 +34,6 @@ impl Model for WritebackRing {
     ghost view = { λ r. r.table.shared.table_id };
 
     ghost invariant = { λ r. (r.table.shared.table_id.words ≡ 2) × (r.table.shared.table_id.slots ≡ r.size) × (r.table.shared.key ≡ r.size) × (8 ≤ r.size) × (r.size ≤ 32768) × (r.room.items ≡ []) × (r.size + r.size ≤ vec_capacity r.room) };
-}
-
-impl WritebackRing {
-    // Takes all slots out of a new table, and gives them to the driver's end.
-    fn of(
-        table: Table<Option<Desc>, View, u32, Writeback, Global>,
-        mut seat: EndSeat,
-        size: u32,
-        room: Vec<Desc>,
-    ) -> (WritebackRing, WritebackDriver, WritebackDevice)
-        requires table { (table.shared.table_id.words ≡ 2) × (table.shared.table_id.slots ≡ size) × (table.shared.key ≡ size) × (8 ≤ size) × (size ≤ 32768) }
-        requires seat { (seat.table_id ≡ table.shared.table_id) × (seat.me ≡ (whole, [])) }
-        requires room { (room.items ≡ []) × (size + size ≤ vec_capacity room) }
-        ensures { (result.0 ≡ table.shared.table_id) × IsNewDriver table.shared.table_id result.1 × IsNewDevice table.shared.table_id result.2 }
-    {
-        table.shared.load::<Fills>(&mut seat, BELL);
-        let other = table.shared.split_seat::<Parts>(&mut seat);
-        let driver = Rack {
-            seat,
-            size,
-            first: 0,
-            put: 0,
-            bare: size,
-            left: 0,
-        };
-        let device = Rack {
-            seat: other,
-            size,
-            first: 0,
-            put: 0,
-            bare: 0,
-            left: 0,
-        };
-        (
-            WritebackRing { table, size, room },
-            WritebackDriver { rack: driver },
-            WritebackDevice { rack: device },
-        )
-    }
-
-    // Ends the ring, once each end knows all that the other sent.
-    fn gather(self, driver: WritebackDriver, device: WritebackDevice) -> WritebackClosed
-        requires rings { (driver.ring ≡ self) × (device.ring ≡ self) }
-        requires met { HaveMet driver device }
-        ensures list { Closes driver device result.remains }
-        ensures lawful { IsClosed result.remains }
-    {
-        let WritebackRing {
-            table,
-            size,
-            mut room,
-        } = self;
-        let WritebackDriver { mut rack } = driver;
-        let WritebackDevice { rack: mut other } = device;
-        let pending = rack.put;
-        rack.take_all::<OfDriver, Writeback>(&table.shared, &mut room);
-        other.take_all::<OfDevice, Writeback>(&table.shared, &mut room);
-        rack.unload::<OfDriver, Writeback>(&table.shared, &mut room);
-        let mut seat = rack.seat;
-        let mut last = other.seat;
-        table.shared.load::<DeviceRetires>(&mut last, BELL);
-        table.shared.join_seat::<Unites>(&mut seat, last);
-        table.shared.load::<Gathers>(&mut seat, BELL);
-        WritebackClosed {
-            remains: Remains::new(room, size, pending, seat),
-        }
-    }
 }
 
 impl DescRing for WritebackRing {
@@ -130,7 +60,14 @@ impl DescRing for WritebackRing {
             return Err(DescFault::Memory);
         };
         match Table::vacant(alloc, &[0, 0], size as usize, &size) {
-            Ok((table, seat)) => Ok(WritebackRing::of(table, seat, size, room)),
+            Ok((table, seat)) => {
+                let (driver, device) = new_ends(&table.shared, seat, size);
+                Ok((
+                    WritebackRing { table, size, room },
+                    WritebackDriver { rack: driver },
+                    WritebackDevice { rack: device },
+                ))
+            }
             Err(_) => Err(DescFault::Memory),
         }
     }
@@ -144,7 +81,7 @@ impl DescRing for WritebackRing {
     }
 
     fn post(&self, end: &mut WritebackDriver, d: Desc) {
-        end.rack.place::<OfDriver, Writeback>(&self.table.shared, d);
+        end.rack.place::<OfDriver, Rule>(&self.table.shared, d);
     }
 
     fn flush(&self, end: &mut WritebackDriver) {
@@ -169,7 +106,7 @@ impl DescRing for WritebackRing {
         if end.rack.left == 0 {
             return None;
         }
-        Some(end.rack.take::<OfDriver, Writeback>(&self.table.shared))
+        Some(end.rack.take::<OfDriver, Rule>(&self.table.shared))
     }
 
     fn fetch(&self, end: &mut WritebackDevice) -> u32 {
@@ -189,12 +126,12 @@ impl DescRing for WritebackRing {
         if end.rack.left == 0 {
             return None;
         }
-        Some(end.rack.take::<OfDevice, Writeback>(&self.table.shared))
+        Some(end.rack.take::<OfDevice, Rule>(&self.table.shared))
     }
 
     fn complete(&self, end: &mut WritebackDevice, d: Desc) {
         let last = d.last;
-        end.rack.place::<OfDevice, Writeback>(&self.table.shared, d);
+        end.rack.place::<OfDevice, Rule>(&self.table.shared, d);
         if last {
             let new = (end.rack.first + end.rack.put) % end.rack.size;
             self.table
@@ -206,13 +143,7 @@ impl DescRing for WritebackRing {
     }
 
     fn meet(&self, driver: &mut WritebackDriver, device: &mut WritebackDevice) {
-        let shared = &self.table.shared;
-        let told = shared.split_seat::<Notes>(&mut driver.rack.seat);
-        let heard = shared.split_seat::<Notes>(&mut device.rack.seat);
-        shared.join_seat::<Hearing>(&mut driver.rack.seat, heard);
-        shared.join_seat::<Hearing>(&mut device.rack.seat, told);
-        shared.load::<DriverSaw>(&mut driver.rack.seat, BELL);
-        shared.load::<DeviceSaw>(&mut device.rack.seat, BELL);
+        let_meet(&self.table.shared, &mut driver.rack, &mut device.rack);
     }
 
     fn close(self, driver: WritebackDriver, device: WritebackDevice) -> WritebackClosed {
@@ -221,6 +152,15 @@ impl DescRing for WritebackRing {
         self.meet(&mut driver, &mut device);
         self.credits(&mut driver);
         self.fetch(&mut device);
-        self.gather(driver, device)
+        let WritebackRing {
+            table,
+            size: _,
+            room,
+        } = self;
+        let WritebackDriver { rack } = driver;
+        let WritebackDevice { rack: other } = device;
+        WritebackClosed {
+            remains: gather(&table.shared, rack, other, room),
+        }
     }
 }

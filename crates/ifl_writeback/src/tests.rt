@@ -2,7 +2,7 @@ ghost use Rattle.std.specs.Prelude.{◌≡◌};
 
 mod threads;
 
-use super::*;
+use crate::WritebackRing as Adapter;
 use ifl_base::{Stamp, Ticket};
 use ifl_desc::{Desc, DescFault, DescRing, Status};
 use ifl_mbuf::{Cluster, Seg, make_clusters};
@@ -53,7 +53,7 @@ fn two_descriptors_go_round(rt: HostRuntime) -> Result<(), Fail> {
     let (Some(second), Some(first)) = (clusters.pop(), clusters.pop()) else {
         panic!(rt; "two clusters were made")
     };
-    let Ok((ring, mut driver, mut device)) = WritebackRing::make(rt.alloc(), 8) else {
+    let Ok((ring, mut driver, mut device)) = Adapter::make(rt.alloc(), 8) else {
         panic!(rt; "no memory")
     };
     ring.post(&mut driver, desc(first, 0, false));
@@ -80,16 +80,17 @@ fn two_descriptors_go_round(rt: HostRuntime) -> Result<(), Fail> {
 
 #[test]
 fn sizes(rt: HostRuntime) {
-    match WritebackRing::make(rt.alloc(), 7) {
-        Err(DescFault::BadSize(n)) => assert_eq!(rt; n, 7),
-        _ => panic!(rt; "7 is too small"),
+    for size in [7, 32_769] {
+        match Adapter::make(rt.alloc(), size) {
+            Err(DescFault::BadSize(n)) => assert_eq!(rt; n, size),
+            _ => panic!(rt; "a ring has 8 to 32,768 slots"),
+        }
     }
-    match WritebackRing::make(rt.alloc(), 8) {
-        Ok((ring, _, _)) => assert_eq!(rt; ring.size(), 8),
-        Err(_) => panic!(rt; "8 is large enough"),
-    }
-    match WritebackRing::make(rt.alloc(), 32_769) {
-        Err(DescFault::BadSize(n)) => assert_eq!(rt; n, 32_769),
-        _ => panic!(rt; "too large"),
+    for (size, avail) in [(8, 7), (32_768, 32_767)] {
+        let Ok((ring, driver, _)) = Adapter::make(rt.alloc(), size) else {
+            panic!(rt; "no memory")
+        };
+        assert_eq!(rt; ring.size(), size);
+        assert_eq!(rt; ring.avail(&driver), avail);
     }
 }

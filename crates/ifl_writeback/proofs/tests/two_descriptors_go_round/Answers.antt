@@ -1,5 +1,5 @@
 use Rattle.std.proofs.Common.{arith}
-use Rattle.ifl_writeback.proofs.Counts.{fetched-Fetches, completed-TakesNext, fetched-TakesNext, completed-Completes}
+use Rattle.ifl_desc.proofs.DeviceCounts.{fetched-Fetches, completed-TakesNext, fetched-TakesNext, completed-Completes}
 use Rattle.ifl_writeback.proofs.tests.two_descriptors_go_round.Goals as goal
 
 pub complete-requires-2-clause-fetched : goal.complete-requires-2-clause-fetched

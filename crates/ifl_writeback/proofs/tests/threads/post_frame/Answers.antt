@@ -2,7 +2,7 @@ use Rattle.std.proofs.Common.{◌∷◌, [], length, ap, ◌∙◌, arith}
 use Rattle.std.proofs.lemmas.List.{length-append}
 use Rattle.ifl_desc.specs.declared.desc.Desc.{Desc}
 use Rattle.ifl_desc.specs.Ends.{DriverSees}
-use Rattle.ifl_writeback.proofs.Posting.{open_after-part, open_after-last, room_of-Posts, ring-Posts}
+use Rattle.ifl_desc.proofs.Posting.{open_after-part, open_after-last, room_of-Posts, ring-Posts}
 use Rattle.ifl_writeback.proofs.tests.threads.post_frame.Goals as goal
 
 pub loop-part-preserved : goal.loop-part-preserved
