@@ -7,17 +7,17 @@ import subprocess
 TOP = os.path.dirname(os.path.dirname(os.path.abspath(__file__)))
 
 
-def make(folder, layers, name, stands_on, source, proofs):
-    """Copies the crates `layers`, and makes the crate `name` of the file `source`.
+def make(folder, layers, name, stands_on, source, proofs, top=TOP):
+    """Copies the crates `layers` of the checkout `top`, and makes the crate `name` of the file `source`.
 
     `stands_on` is what the program uses, as in crates.txt; `proofs` names a file for each place under the crate's
     folder `proofs`. The crate's folder is answered.
     """
     for layer in layers:
-        shutil.copytree(os.path.join(TOP, "crates", layer), os.path.join(folder, "crates", layer),
+        shutil.copytree(os.path.join(top, "crates", layer), os.path.join(folder, "crates", layer),
                         ignore=shutil.ignore_patterns("out", "must-fail"))
-    shutil.copy(os.path.join(TOP, "HANDLES"), folder)
-    with open(os.path.join(TOP, "crates.txt")) as lines:
+    shutil.copy(os.path.join(top, "HANDLES"), folder)
+    with open(os.path.join(top, "crates.txt")) as lines:
         kept = [line for line in lines if line.split(":")[0].split(" ")[0] in layers]
     with open(os.path.join(folder, "crates.txt"), "w") as out:
         out.writelines(kept + [f"{name}: {stands_on}\n"])
@@ -26,7 +26,7 @@ def make(folder, layers, name, stands_on, source, proofs):
     shutil.copy(source, os.path.join(crate, "src", "main.rt"))
     for place, file in proofs.items():
         target = os.path.join(crate, "proofs", place)
-        os.makedirs(os.path.dirname(target))
+        os.makedirs(os.path.dirname(target), exist_ok=True)
         shutil.copy(file, target)
     return crate
 

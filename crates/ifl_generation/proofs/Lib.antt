@@ -1,0 +1,5 @@
+pub mod Laps
+pub mod Entries
+pub mod Ties
+pub mod WordSteps
+pub mod Counting

@@ -1,0 +1,4 @@
+pub mod Statuses
+pub mod Ties
+pub mod WordSteps
+pub mod Counting
