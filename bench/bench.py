@@ -4,8 +4,10 @@
 Usage: bench/bench.py [ROUNDS]
 
 Makes two captures in a temporary folder: 80,000 frames of 60 to 1,514 bytes (64 MB), and 880,000 frames of
-60 bytes (67 MB, as many as one file may hold). Runs the tools one after another, ROUNDS times each (5 where
-no number is given), and prints the median of each, its ratio to mergecap, and the peak memory.
+60 bytes (67 MB, as many as one file may hold). The tools take turns, ROUNDS times (9 where no number is given),
+so that what else the machine does falls on all alike. For each it prints the median of the wall time and of the
+processor time (user and system together) with its ratio to mergecap, the pages that it faulted in, and the peak
+memory.
 
 Build the program first (the script `iflib_run` at the top does it). Standard library only; no part of the gate.
 """
@@ -19,6 +21,7 @@ import subprocess
 import sys
 import tempfile
 import time
+import typing
 
 TOP = os.path.dirname(os.path.dirname(os.path.abspath(__file__)))
 PROGRAM = os.path.join(TOP, "crates", "iflib_run", "out", "iflib_run")
@@ -50,8 +53,16 @@ def write_capture(name, frames):
             out.write(frame)
 
 
+class Run(typing.NamedTuple):
+    """One run: seconds on the clock and of the processor, pages faulted in, and peak memory in MB."""
+
+    wall: float
+    processor: float
+    faults: int
+    peak: float
+
+
 def run(command):
-    """The seconds and the peak memory (MB) of one run."""
     start = time.perf_counter()
     child = os.fork()
     if child == 0:
@@ -60,10 +71,10 @@ def run(command):
         os.dup2(quiet, 2)
         os.execv(command[0], command)
     _, status, usage = os.wait4(child, 0)
-    seconds = time.perf_counter() - start
+    wall = time.perf_counter() - start
     if status != 0:
         sys.exit(f"{command[0]} ended with {status}")
-    return seconds, usage.ru_maxrss / 1024
+    return Run(wall, usage.ru_utime + usage.ru_stime, usage.ru_minflt, usage.ru_maxrss / 1024)
 
 
 def tools(capture, folder):
@@ -84,21 +95,30 @@ def measure(title, frames, rounds, folder):
     write_capture(capture, frames)
     size = os.path.getsize(capture) / 2**20
     print(f"{title}: {size:.1f} MB")
-    seconds, memory = {}, {}
+    runs = {}
     for _ in range(rounds):
         for name, command in tools(capture, folder):
-            took, peak = run(command)
-            seconds.setdefault(name, []).append(took)
-            memory[name] = max(memory.get(name, 0), peak)
-    base = statistics.median(seconds["mergecap"]) if "mergecap" in seconds else None
-    for name, all_seconds in seconds.items():
-        median = statistics.median(all_seconds)
-        ratio = f"{median / base:5.2f} of mergecap" if base else ""
-        print(f"  {name:10} {median * 1000:8.1f} ms  {ratio}  peak {memory[name]:6.1f} MB, {memory[name] / size:4.2f} of the capture")
+            runs.setdefault(name, []).append(run(command))
+    for name, all_runs in runs.items():
+        wall, processor, faults, _ = (statistics.median(column) for column in zip(*all_runs))
+        peak = max(one.peak for one in all_runs)
+        print(
+            f"  {name:10} wall {shown(wall, runs, 'wall')}  processor {shown(processor, runs, 'processor')}"
+            f"  {faults:8.0f} pages  peak {peak:6.1f} MB, {peak / size:4.2f} of the capture"
+        )
+
+
+def shown(median, runs, what):
+    """A median in milliseconds, and its ratio to that of mergecap."""
+    text = f"{median * 1000:7.1f} ms"
+    if "mergecap" not in runs:
+        return text
+    base = statistics.median(getattr(one, what) for one in runs["mergecap"])
+    return f"{text} ({median / base:4.2f})"
 
 
 def main():
-    rounds = int(sys.argv[1]) if len(sys.argv) > 1 else 5
+    rounds = int(sys.argv[1]) if len(sys.argv) > 1 else 9
     if not os.path.exists(PROGRAM):
         sys.exit("build the program first: ./iflib_run send --wire wire.pcap --order order.txt examples/sample.pcap")
     with tempfile.TemporaryDirectory() as folder:

@@ -8,7 +8,7 @@ use Rattle.ifl_pcap.specs.declared.fault.CaptureWhy.{CaptureWhy}
 use Rattle.ifl_pcap.specs.declared.fault.CaptureWhy.TheVariants.{Short, Magic, Version, Link, RecordShort, TooLong}
 use Rattle.ifl_pcap.specs.declared.fault.CaptureFault.{CaptureFault}
 use Rattle.ifl_pcap.specs.declared.fault.CaptureFault.TheVariants.{Bad, Memory}
-use Rattle.ifl_pcap.specs.File.{HasHeader, AreRecords, Fits, IsFile}
+use Rattle.ifl_pcap.specs.File.{HasHeader, AreRecords, Fits, IsFile, IsShort}
 use Rattle.ifl_pcap.specs.Faults.{IsBadRecord, IsRecordFault, IsFirstFault, IsFaultOf}
 use Rattle.ifl_pcap.specs.Reading.{◌>>=◌, Fails, bad, frame_at, header_at, frames_at, capture_of}
 use Rattle.ifl_pcap.proofs.Numbers.{IsBytes, IsBytes-drop}
@@ -80,13 +80,17 @@ continues form (f ∷ fs) (suc fuel) at bytes rest enough is =
       all = frames_at-Ok form fuel at bytes f is.0 (omega (arith, long)) (frame_at-IsRecord form at f bytes is.0 is.1) ∙ ap (with_front (f ∷ [])) c.all ∙ regroup (f ∷ []) fs (frames_at form c.fuel c.place rest);
     }
 
-after_header : (form : Form) (bytes : List ℕ) → HasHeader form bytes → capture_of bytes ≡ frames_at form (length (drop 24 bytes)) 24 (drop 24 bytes)
+-- behind a header the frames are read
+pub capture_of-header_at : (form : Form) (bytes : List ℕ) → header_at bytes ≡ Ok form → capture_of bytes ≡ frames_at form (length (drop 24 bytes)) 24 (drop 24 bytes)
 unfolding capture_of
-after_header form bytes h = ap (λ (r : Result Form CaptureFault). r >>= λ form. frames_at form (length (drop 24 bytes)) 24 (drop 24 bytes)) (header_at-HasHeader form bytes h)
+capture_of-header_at form bytes is = ap (λ (r : Result Form CaptureFault). r >>= λ form. frames_at form (length (drop 24 bytes)) 24 (drop 24 bytes)) is
 
-no_header : (bytes : List ℕ) (at : ℕ) (why : CaptureWhy) → header_at bytes ≡ bad at why → capture_of bytes ≡ bad at why
+after_header : (form : Form) (bytes : List ℕ) → HasHeader form bytes → capture_of bytes ≡ frames_at form (length (drop 24 bytes)) 24 (drop 24 bytes)
+after_header form bytes h = capture_of-header_at form bytes (header_at-HasHeader form bytes h)
+
+pub no_header : (bytes : List ℕ) (e : CaptureFault) → header_at bytes ≡ Err e → capture_of bytes ≡ Err e
 unfolding capture_of
-no_header bytes at why is = ap (λ (r : Result Form CaptureFault). r >>= λ form. frames_at form (length (drop 24 bytes)) 24 (drop 24 bytes)) is
+no_header bytes e is = ap (λ (r : Result Form CaptureFault). r >>= λ form. frames_at form (length (drop 24 bytes)) 24 (drop 24 bytes)) is
 
 pub capture_of-IsFile : (bytes : List ℕ) (fs : List Frame) → IsFile bytes fs → capture_of bytes ≡ Ok fs
 capture_of-IsFile bytes fs file =
@@ -104,10 +108,10 @@ capture_of-IsRecordFault bytes at why h =
     after_header h.form bytes h.header ∙ c.all ∙ ap (with_front h.frames) stops
 
 pub capture_of-IsFirstFault : (bytes : List ℕ) (at : ℕ) (why : CaptureWhy) → IsFirstFault bytes at why → capture_of bytes ≡ bad at why
-capture_of-IsFirstFault bytes at Short h = rw h.0 (no_header bytes 0 Short (header_at-Short bytes h.1))
-capture_of-IsFirstFault bytes at Magic h = rw h.0 (no_header bytes 0 Magic (header_at-Magic bytes h.1 h.2))
-capture_of-IsFirstFault bytes at Version h = rw h.0 (no_header bytes 4 Version (header_at-Version h.1 bytes h.2))
-capture_of-IsFirstFault bytes at Link h = rw h.0 (no_header bytes 20 Link (header_at-Link h.1 bytes h.2))
+capture_of-IsFirstFault bytes at Short h = rw h.0 (no_header bytes (Bad 0 Short) (header_at-Short bytes h.1))
+capture_of-IsFirstFault bytes at Magic h = rw h.0 (no_header bytes (Bad 0 Magic) (header_at-Magic bytes h.1 h.2))
+capture_of-IsFirstFault bytes at Version h = rw h.0 (no_header bytes (Bad 4 Version) (header_at-Version h.1 bytes h.2))
+capture_of-IsFirstFault bytes at Link h = rw h.0 (no_header bytes (Bad 20 Link) (header_at-Link h.1 bytes h.2))
 capture_of-IsFirstFault bytes at RecordShort h = capture_of-IsRecordFault bytes at RecordShort h
 capture_of-IsFirstFault bytes at TooLong h = capture_of-IsRecordFault bytes at TooLong h
 
@@ -198,6 +202,10 @@ IsFaultOf-Fails bytes (Bad at why) fits h =
       | inr first ↦ subst (IsFaultOf bytes) (fault_is (Bad first.0 first.1) (Bad at why) (sym (capture_of-IsFirstFault bytes first.0 first.1 first.2) ∙ h)) first.2
     ]
 
+pub IsFaultOf-Err : (bytes : List ℕ) (e : CaptureFault) → IsBytes bytes → capture_of bytes ≡ Err e → IsFaultOf bytes e
+IsFaultOf-Err bytes Memory fits h = tt
+IsFaultOf-Err bytes (Bad at why) fits h = IsFaultOf-Fails bytes (Bad at why) fits h
+
 -- frames that a file holds fit in records
 pub Fits-AreRecords : (form : Form) (fs : List Frame) (bytes rest : List ℕ) → AreRecords form fs bytes rest → AllByRecursion Fits fs
 Fits-AreRecords form [] bytes rest is = tt
@@ -205,6 +213,13 @@ Fits-AreRecords form (f ∷ fs) bytes rest is = (is.1.fit, Fits-AreRecords form 
 
 pub Fits-IsFile : (bytes : List ℕ) (fs : List Frame) → IsFile bytes fs → AllByRecursion Fits fs
 Fits-IsFile bytes fs file = Fits-AreRecords file.form fs (drop 24 bytes) [] file.records
+
+pub IsShort-Fits : (fs : List Frame) → AllByRecursion Fits fs → AllByRecursion IsShort fs
+IsShort-Fits [] fit = tt
+IsShort-Fits (f ∷ fs) fit = (fit.0.bytes, IsShort-Fits fs fit.1)
+
+pub IsShort-IsFile : (bytes : List ℕ) (fs : List Frame) → IsFile bytes fs → AllByRecursion IsShort fs
+IsShort-IsFile bytes fs file = IsShort-Fits fs (Fits-IsFile bytes fs file)
 
 -- each record takes 16 bytes at least
 pub length-IsFile : (bytes : List ℕ) (fs : List Frame) → IsFile bytes fs → 24 + 16 * length fs ≤ length bytes

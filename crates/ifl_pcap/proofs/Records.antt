@@ -13,6 +13,7 @@ use Rattle.ifl_pcap.specs.Numbers.{spelled_in, number_in}
 use Rattle.ifl_pcap.specs.File.{micros, record_with, IsRecord}
 use Rattle.ifl_pcap.specs.Faults.{announced, IsBadRecord}
 use Rattle.ifl_pcap.specs.Reading.{bad, stamp_at, frame_at}
+use Rattle.ifl_pcap.specs.Table.{front_frame}
 use Rattle.ifl_pcap.proofs.Numbers.{IsBytes, IsBytes-drop, spelled_in-number_in, number_in-spelled_in, number_in-lt}
 use Rattle.ifl_pcap.proofs.Parts.{length-record_with, append_assoc-five, parts_of, behind}
 
@@ -21,8 +22,8 @@ micros-le Micros n = omega arith
 micros-le Nanos n = omega arith
 
 -- the frame at the front of bytes that hold it
-abbrev pub front_frame : Form → List ℕ → Frame
-front_frame form bytes = record { stamp = stamp_at form bytes; bytes = take (announced form.order bytes) (drop 16 bytes) }
+abbrev whole_frame : Form → List ℕ → Frame
+whole_frame form bytes = front_frame form (announced form.order bytes) bytes
 
 -- the four numbers of a record, from its parts
 record Numbers (form : Form) (f : Frame) (fraction : ℕ) (bytes rest : List ℕ) : Type 0 where
@@ -57,6 +58,12 @@ stamp_at-is : (form : Form) (f : Frame) (fraction : ℕ) (bytes rest : List ℕ)
 unfolding stamp_at
 stamp_at-is form f fraction bytes rest time n = rw (n.sec, n.count, n.orig, ← time) refl
 
+-- the frame of a record is read at its front
+pub front_frame-IsRecord : (form : Form) (f : Frame) (bytes rest : List ℕ) → IsRecord form f bytes rest → front_frame form (length f.bytes) bytes ≡ f
+front_frame-IsRecord form f bytes rest r =
+    let n = numbers_of form f bytes rest r in
+    rw (n.body, take_at f.bytes rest (length f.bytes) refl, stamp_at-is form f r.fraction bytes rest r.time n) refl
+
 pub length-IsRecord : (form : Form) (f : Frame) (bytes rest : List ℕ) → IsRecord form f bytes rest → length bytes ≡ 16 + length f.bytes + length rest
 length-IsRecord form f bytes rest r =
     omega (arith, ap length r.parts, length-append (record_with form.order r.fraction f) rest, length-record_with form.order r.fraction f)
@@ -84,7 +91,7 @@ frame_at-IsBadRecord form at Version bytes wrong = absurd wrong
 frame_at-IsBadRecord form at Link bytes wrong = absurd wrong
 
 -- a whole record is that of the frame that is read of it
-whole_record : (form : Form) (bytes : List ℕ) → IsBytes bytes → 16 ≤ length bytes → announced form.order bytes ≤ 262144 → 16 + announced form.order bytes ≤ length bytes → IsRecord form (front_frame form bytes) bytes (drop (announced form.order bytes) (drop 16 bytes))
+whole_record : (form : Form) (bytes : List ℕ) → IsBytes bytes → 16 ≤ length bytes → announced form.order bytes ≤ 262144 → 16 + announced form.order bytes ≤ length bytes → IsRecord form (whole_frame form bytes) bytes (drop (announced form.order bytes) (drop 16 bytes))
 unfolding stamp_at
 whole_record form bytes fits long small there =
     let o = form.order in
@@ -128,7 +135,7 @@ record_or_not form bytes fits =
         | inl much ↦ inr (record { why = TooLong; wrong = (long, much) })
         | inr small ↦ elim (cases_lt (length bytes) (16 + len)) [
           | inl cut ↦ inr (record { why = RecordShort; wrong = inr (long, small, cut) })
-          | inr there ↦ inl (record { frame = front_frame form bytes; rest = drop len (drop 16 bytes); is = whole_record form bytes fits long small there; rest_fits = IsBytes-drop len (drop 16 bytes) (IsBytes-drop 16 bytes fits) })
+          | inr there ↦ inl (record { frame = whole_frame form bytes; rest = drop len (drop 16 bytes); is = whole_record form bytes fits long small there; rest_fits = IsBytes-drop len (drop 16 bytes) (IsBytes-drop 16 bytes fits) })
         ]
       ]
     ]

@@ -6,13 +6,8 @@ use Rattle.std.proofs.lemmas.List.{take_more, append-nil}
 use Rattle.std.proofs.lemmas.List.Concat.{flat_map-cons}
 use Rattle.ifl_pcap.specs.declared.frame.Frame.{Frame}
 use Rattle.ifl_pcap.specs.declared.form.Order.TheVariants.{Little}
-use Rattle.ifl_pcap.specs.declared.form.Fraction.TheVariants.{Micros}
-use Rattle.ifl_pcap.specs.declared.form.Form.{Form}
 use Rattle.ifl_pcap.specs.Numbers.{spelled_in}
-use Rattle.ifl_pcap.specs.File.{record_of, Fits, AreRecords, HasHeader, IsFile, written_header, written}
-
-abbrev written_form : Form
-written_form = record { order = Little; fraction = Micros }
+use Rattle.ifl_pcap.specs.File.{record_of, Fits, AreRecords, HasHeader, IsFile, written_form, written_header, written}
 
 append_assoc-four : (o a b c d e : List ℕ) → ((((o ++ a) ++ b) ++ c) ++ d) ++ e ≡ o ++ (a ++ (b ++ (c ++ (d ++ e))))
 append_assoc-four o a b c d e = simp append_assoc

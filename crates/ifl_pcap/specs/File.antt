@@ -1,6 +1,7 @@
 -- What a capture's file is, after the capture file format 2.4: a header of 24 bytes, and then a record for each frame.
 use Rattle.std.specs.Prelude.{◌≡◌, ◌<◌, ◌≤◌, ◌^◌, ◌/◌, ℕ, List, [], ◌∷◌, ◌++◌, length, take, drop}
 use Rattle.std.specs.List.{flat_map}
+use Rattle.ifl_base.specs.declared.ticket.Stamp.{Stamp}
 use Rattle.ifl_pcap.specs.declared.form.Order.{Order}
 use Rattle.ifl_pcap.specs.declared.form.Order.TheVariants.{Little, Big}
 use Rattle.ifl_pcap.specs.declared.form.Fraction.{Fraction}
@@ -51,12 +52,20 @@ abbrev pub record_with : Order → ℕ → Frame → List ℕ
 record_with order fraction f =
     spelled_in order f.stamp.sec ++ (spelled_in order fraction ++ (spelled_in order (length f.bytes) ++ (spelled_in order f.stamp.orig ++ f.bytes)))
 
+-- no frame of a file is longer
+abbrev pub IsShort : Frame → Type 0
+IsShort f = length f.bytes ≤ 262144
+
+-- the numbers of a stamp have 32 bits
+abbrev pub IsStamp : Stamp → Type 0
+IsStamp s = (s.sec < 2 ^ 32) × (s.usec < 2 ^ 32) × (s.orig < 2 ^ 32)
+
 -- what a record can hold
 pub record Fits (f : Frame) : Type 0 where
   pub sec : f.stamp.sec < 2 ^ 32
   pub usec : f.stamp.usec < 2 ^ 32
   pub orig : f.stamp.orig < 2 ^ 32
-  pub bytes : length f.bytes ≤ 262144
+  pub bytes : IsShort f
 
 -- the bytes begin with this frame's record, and the rest stands behind it
 pub record IsRecord (form : Form) (f : Frame) (bytes rest : List ℕ) : Type 0 where
@@ -76,6 +85,10 @@ pub record IsFile (bytes : List ℕ) (frames : List Frame) : Type 0 where
   pub form : Form
   pub header : HasHeader form bytes
   pub records : AreRecords form frames (drop 24 bytes) []
+
+-- the form of a written file
+abbrev pub written_form : Form
+written_form = record { order = Little; fraction = Micros }
 
 -- a written record: the lowest byte first, and microseconds
 abbrev pub record_of : Frame → List ℕ

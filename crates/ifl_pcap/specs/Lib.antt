@@ -3,3 +3,5 @@ pub mod File
 pub mod Faults
 pub mod Names
 pub mod Reading
+pub mod Seen
+pub mod Table

@@ -1,6 +1,6 @@
 ghost use Rattle.std.specs.Prelude.{◌≡◌};
 ghost use Rattle.ifl_pcap.specs.declared.fault.CaptureFault.TheVariants.{Memory};
-ghost use Rattle.ifl_pcap.specs.Names.{why_name};
+ghost use Rattle.ifl_pcap.specs.Names.{why_name, why_number};
 
 use ifl_base::NoMemory;
 use std::alloc::{AllocError, AllocFailed};
@@ -11,7 +11,7 @@ use thiserror::Error;
 pub enum CaptureWhy {
     /// There are fewer than the 24 bytes of a header. It stands at 0.
     #[error("Short")]
-    Short = 1,
+    Short,
     /// The file begins with no magic of the format, in neither byte order. It stands at 0.
     #[error("Magic")]
     Magic,
@@ -30,6 +30,20 @@ pub enum CaptureWhy {
 }
 
 impl CaptureWhy {
+    /// The number of what is wrong, 1 to 6.
+    pub fn number(self) -> u8
+        ensures { result ≡ why_number self }
+    {
+        match self {
+            CaptureWhy::Short => 1,
+            CaptureWhy::Magic => 2,
+            CaptureWhy::Version => 3,
+            CaptureWhy::Link => 4,
+            CaptureWhy::RecordShort => 5,
+            CaptureWhy::TooLong => 6,
+        }
+    }
+
     /// The name of what is wrong, as fault lines tell it.
     pub fn name(self) -> &'static str
         ensures { result.now ≡ why_name self }
@@ -51,7 +65,7 @@ pub enum CaptureFault {
     /// The bytes are no capture's file, and this is their first fault: its place in bytes from 0, and what is wrong there.
     #[error("not a capture file: {why} at {at}")]
     Bad { at: u64, why: CaptureWhy },
-    /// There was no memory for the frames.
+    /// There was no memory for the table of the frames, or the file has 4 GiB or more, which no table here holds.
     #[error("out of memory")]
     Memory,
 }

@@ -5,7 +5,7 @@ pub const HEADER_LEN: usize = 24;
 pub const HEAD_LEN: usize = 16;
 
 /// In which order the bytes of a file's numbers stand.
-#[derive(Clone, Copy)]
+#[derive(Clone, Copy, Debug)]
 pub enum Order {
     /// The lowest byte first.
     Little,
@@ -14,7 +14,7 @@ pub enum Order {
 }
 
 /// What the fraction of a record's second counts.
-#[derive(Clone, Copy)]
+#[derive(Clone, Copy, Debug)]
 pub enum Fraction {
     /// Microseconds.
     Micros,
@@ -23,7 +23,7 @@ pub enum Fraction {
 }
 
 /// The form of a file, which its magic tells.
-#[derive(Clone, Copy)]
+#[derive(Clone, Copy, Debug)]
 pub struct Form {
     pub order: Order,
     pub fraction: Fraction,

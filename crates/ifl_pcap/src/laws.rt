@@ -5,7 +5,7 @@ ghost use Rattle.std.specs.Prelude.{◌≡◌, ◌<◌, ◌≤◌, ◌+◌, ◌*
 ghost use Rattle.std.specs.List.{AllByRecursion};
 ghost use Rattle.ifl_pcap.specs.declared.fault.CaptureWhy.{CaptureWhy};
 ghost use Rattle.ifl_pcap.specs.declared.frame.Frame.{Frame};
-ghost use Rattle.ifl_pcap.specs.File.{Fits, IsFile, written};
+ghost use Rattle.ifl_pcap.specs.File.{Fits, IsFile, IsShort, written};
 ghost use Rattle.ifl_pcap.specs.Faults.{IsFirstFault};
 
 /// All bytes are the file of some frames or have a first fault, and never both; a file has one list of frames,
@@ -25,5 +25,6 @@ pub fn written_is_a_file()
 /// The frames of a file fit in records again, and there are no more than its bytes allow.
 pub fn frames_of_a_file_fit()
     ensures fit { (bytes : List ℕ) (fs : List Frame) → IsFile bytes fs → AllByRecursion Fits fs }
+    ensures short { (bytes : List ℕ) (fs : List Frame) → IsFile bytes fs → AllByRecursion IsShort fs }
     ensures few { (bytes : List ℕ) (fs : List Frame) → IsFile bytes fs → 24 + 16 * length fs ≤ length bytes }
 {}

@@ -5,18 +5,23 @@
 //! fault of the bytes, with its place; `write_capture` gives the one file that is written for a capture.
 #![tactic(auto)]
 
+mod builder;
+mod capture;
 mod fault;
 mod form;
 mod frame;
 mod header;
 pub mod laws;
 mod reading;
+mod table;
 mod writing;
 
+pub use builder::CaptureBuilder;
+pub use capture::Capture;
 pub use fault::{CaptureFault, CaptureWhy};
-pub use frame::{Capture, Frame};
+pub use frame::{Frame, record_len};
 pub use reading::read_capture;
-pub use writing::{record_len, write_capture};
+pub use writing::write_capture;
 
 #[cfg(test)]
 mod tests;

@@ -1,4 +1,4 @@
-ghost use Rattle.std.specs.Prelude.{◌≡◌, ◌≤◌, ◌+◌, ℕ, List, length, drop, IfOk, IfErr, Ok, Err};
+ghost use Rattle.std.specs.Prelude.{◌≡◌, ◌≤◌, ◌<◌, ◌+◌, ◌^◌, ℕ, All, List, length, drop, IfOk, IfErr, Ok, Err};
 ghost use Rattle.ifl_pcap.specs.declared.frame.Frame.{Frame};
 ghost use Rattle.ifl_pcap.specs.declared.fault.CaptureWhy.{CaptureWhy};
 ghost use Rattle.ifl_pcap.specs.declared.fault.CaptureFault.TheVariants.{Bad};
@@ -6,14 +6,15 @@ ghost use Rattle.ifl_pcap.specs.Numbers.{number_in};
 ghost use Rattle.ifl_pcap.specs.File.{micros, IsFile};
 ghost use Rattle.ifl_pcap.specs.Faults.{IsFirstFault, IsFaultOf};
 ghost use Rattle.ifl_pcap.specs.Reading.{Gives, stamp_at, frame_at, frames_at, capture_of};
+ghost use Rattle.ifl_pcap.specs.Table.{front_frame, frames_in, LiesIn};
 
+use crate::capture::Capture;
 use crate::fault::{CaptureFault, CaptureWhy};
 use crate::form::{Form, Fraction, HEAD_LEN, HEADER_LEN, Order};
-use crate::frame::{Capture, Frame};
 use crate::header::header_of;
-use crate::writing::record_len;
+use crate::table::Place;
 use byteorder::{BigEndian, ByteOrder, LittleEndian};
-use ifl_base::{Items, Stamp};
+use ifl_base::Stamp;
 use std::alloc::Global;
 
 /// The most captured bytes of one record.
@@ -44,7 +45,7 @@ fn micros_of(fraction: Fraction, count: u32) -> u32
 
 /// The stamp of the record at the front of the bytes.
 #[tactic(auto, unfolding(crate::specs::Reading::stamp_at))]
-fn stamp_of(form: Form, bytes: &[u8]) -> Stamp
+pub(crate) fn stamp_of(form: Form, bytes: &[u8]) -> Stamp
     requires { 16 ≤ length bytes.now }
     ensures { result ≡ stamp_at form bytes.now }
 {
@@ -55,15 +56,11 @@ fn stamp_of(form: Form, bytes: &[u8]) -> Stamp
     Stamp { sec, usec, orig }
 }
 
-/// The frame of the record at the front of the bytes, which begins at `at` in the file, and the bytes behind it.
+/// How many bytes the frame of the record at the front of the bytes has, which begins at `at` in the file.
 #[tactic(auto, unfolding(crate::specs::Reading::frame_at))]
-fn frame_of(
-    alloc: Global,
-    form: Form,
-    at: u64,
-    bytes: &[u8],
-) -> Result<(Frame, &[u8]), CaptureFault>
-    ensures { Gives (λ x. (x.0, x.1.now)) result (frame_at form at bytes.now) }
+fn frame_len(form: Form, at: u64, bytes: &[u8]) -> Result<usize, CaptureFault>
+    ensures read { Gives (λ len. (front_frame form len bytes.now, drop len (drop 16 bytes.now))) result (frame_at form at bytes.now) }
+    ensures there { IfOk result (λ len. 16 + len ≤ length bytes.now) }
 {
     if bytes.len() < HEAD_LEN {
         return Err(CaptureFault::Bad {
@@ -71,7 +68,6 @@ fn frame_of(
             why: CaptureWhy::RecordShort,
         });
     }
-    let stamp = stamp_of(form, bytes);
     let len = number_at(form.order, bytes, 8) as usize;
     if CAPTURED_MAX < len {
         return Err(CaptureFault::Bad {
@@ -79,42 +75,52 @@ fn frame_of(
             why: CaptureWhy::TooLong,
         });
     }
-    let (_, behind) = bytes.split_at(HEAD_LEN);
-    if behind.len() < len {
+    if bytes.len() - HEAD_LEN < len {
         return Err(CaptureFault::Bad {
             at,
             why: CaptureWhy::RecordShort,
         });
     }
-    let (captured, rest) = behind.split_at(len);
-    let bytes = Items::from_vec(Vec::from_slice(alloc, captured)?);
-    Ok((Frame { stamp, bytes }, rest))
+    Ok(len)
 }
 
-/// The frames of all records behind the header of a file.
-fn frames_of(alloc: Global, form: Form, file: &[u8]) -> Result<Items<Frame>, CaptureFault>
-    requires { 24 ≤ length file.now }
-    ensures { Gives (λ x. x) result (frames_at form (length (drop 24 file.now)) 24 (drop 24 file.now)) }
+/// Where the records behind the header of a file lie.
+fn places_of(alloc: Global, form: Form, file: &[u8]) -> Result<Vec<Place>, CaptureFault>
+    requires { (24 ≤ length file.now) × (length file.now < 2 ^ 32) }
+    ensures read { Gives (λ v. frames_in form file.now v.items) result (frames_at form (length (drop 24 file.now)) 24 (drop 24 file.now)) }
+    ensures there { IfOk result (λ v. All (LiesIn file.now) v.items) }
 {
-    let mut frames = Items::new(alloc);
+    let mut places = Vec::new(alloc);
     let (_, mut rest) = file.split_at(HEADER_LEN);
-    let mut at = HEADER_LEN as u64;
+    let mut at = HEADER_LEN;
     while 0 < rest.len() {
-        let (frame, after) = frame_of(alloc, form, at, rest)?;
-        at += record_len(&frame);
-        frames.push(frame)?;
+        let len = frame_len(form, at as u64, rest)?;
+        places.push(Place {
+            at: at as u32,
+            len: len as u32,
+        })?;
+        let (_, behind) = rest.split_at(HEAD_LEN);
+        let (_, after) = behind.split_at(len);
+        at += HEAD_LEN + len;
         rest = after;
     }
-    Ok(frames)
+    Ok(places)
 }
 
-/// The frames of a whole file.
+/// The form of a whole file, and where its records lie.
 #[tactic(auto, unfolding(crate::specs::Reading::capture_of))]
-fn whole(alloc: Global, bytes: &[u8]) -> Result<Items<Frame>, CaptureFault>
-    ensures { Gives (λ x. x) result (capture_of bytes.now) }
+fn table_of(alloc: Global, bytes: &[u8]) -> Result<(Form, Vec<Place>), CaptureFault>
+    ensures read { Gives (λ t. frames_in t.0 bytes.now t.1.items) result (capture_of bytes.now) }
+    ensures there { IfOk result (λ t. All (LiesIn bytes.now) t.1.items) }
+    ensures found { IfOk result (λ t. IsFile bytes.now (frames_in t.0 bytes.now t.1.items)) }
+    ensures fault { IfErr result (λ e. IsFaultOf bytes.now e) }
 {
     let form = header_of(bytes)?;
-    frames_of(alloc, form, bytes)
+    if u32::try_from(bytes.len()).is_err() {
+        return Err(CaptureFault::Memory);
+    }
+    let places = places_of(alloc, form, bytes)?;
+    Ok((form, places))
 }
 
 /// The capture of which these bytes are the file.
@@ -122,17 +128,21 @@ fn whole(alloc: Global, bytes: &[u8]) -> Result<Items<Frame>, CaptureFault>
 /// `Bad` comes exactly where they are no capture's file, with the first fault from the front: a header that is
 /// short, another magic, another version or another link type, and then for each record in turn that it is not
 /// all there or announces too much.
-pub fn read_capture(alloc: Global, bytes: &[u8]) -> Result<Capture, CaptureFault>
+pub fn read_capture(alloc: Global, bytes: Vec<u8>) -> Result<Capture, CaptureFault>
     // What is read is what the bytes are the file of.
-    ensures found { IfOk result (λ c. IsFile bytes.now c.frames) }
+    ensures found { IfOk result (λ c. IsFile bytes.items c.frames) }
     // A fault that is named is the first one.
-    ensures fault { IfErr result (λ e. IsFaultOf bytes.now e) }
+    ensures fault { IfErr result (λ e. IsFaultOf bytes.items e) }
     // A file is read as its frames, unless memory runs out.
-    ensures only { (fs : List Frame) → IsFile bytes.now fs → Gives (λ c. c.frames) result (Ok fs) }
+    ensures only { (fs : List Frame) → IsFile bytes.items fs → Gives (λ c. c.frames) result (Ok fs) }
     // The first fault is named, unless memory runs out.
-    ensures first { (at : ℕ) (why : CaptureWhy) → IsFirstFault bytes.now at why → Gives (λ c. c.frames) result (Err (Bad at why)) }
-    ensures exact { Gives (λ c. c.frames) result (capture_of bytes.now) }
+    ensures first { (at : ℕ) (why : CaptureWhy) → IsFirstFault bytes.items at why → Gives (λ c. c.frames) result (Err (Bad at why)) }
+    ensures exact { Gives (λ c. c.frames) result (capture_of bytes.items) }
 {
-    let frames = whole(alloc, bytes)?;
-    Ok(Capture { frames })
+    let (form, places) = table_of(alloc, &bytes)?;
+    Ok(Capture {
+        form,
+        bytes,
+        places,
+    })
 }

@@ -1,6 +1,6 @@
 use Rattle.ifl_pcap.proofs.Written.{append-record_of}
 use Rattle.ifl_pcap.proofs.writing.put_frame.Goals as goal
 
-pub returns : goal.returns
-returns c =
-    rw (c.in_ok-extend_from_slice.ensures.items, c.in_ok-put_number-4.ensures, c.in_ok-put_number-3.ensures, c.in_ok-put_number-2.ensures, c.in_ok-put_number.ensures, c.as_slice.ensures, c.len.ensures) (append-record_of c.args.out.now.items c.args.f.now)
+pub returns-clause-ok : goal.returns-clause-ok
+returns-clause-ok c =
+    rw (c.put.ensures.items, c.put_head.ensures.items, c.in_ok-reserve.ensures.items, c.stamp.ensures, c.bytes-bytes.ensures) (append-record_of c.args.out.now.items c.args.f.now)

@@ -1,6 +1,10 @@
+use Rattle.std.proofs.Common.{sym, arith}
+use Rattle.std.proofs.lemmas.Option.{get_or_from_slice_get}
 use Rattle.ifl_pcap.specs.File.{record_of, written_header}
 use Rattle.ifl_pcap.proofs.Written.{flat_map-take_more}
 use Rattle.ifl_pcap.proofs.writing.write_capture.Goals as goal
 
-pub loop-f-preserved : goal.loop-f-preserved
-loop-f-preserved c = flat_map-take_more record_of written_header c.as_slice-frames.result.now c.loop-f.f-index c.f-item.result c.loop-f.out.items c.put_frame.new.out.items c.loop-f-test.true c.f-item.is c.loop-f.invariant c.in_ok-put_frame.ensures
+pub loop-i-preserved : goal.loop-i-preserved
+loop-i-preserved c =
+    let is = sym (get_or_from_slice_get c.args.c.now.frames c.loop-i.i c.frame-f.result c.frame-f.result c.frame-f.ensures) in
+    flat_map-take_more record_of written_header c.args.c.now.frames c.loop-i.i c.frame-f.result c.loop-i.out.items c.put_frame.new.out.items (omega arith) is c.loop-i.invariant c.in_ok-put_frame.ensures.ok

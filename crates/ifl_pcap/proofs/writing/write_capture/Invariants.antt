@@ -3,5 +3,5 @@ use Rattle.std.specs.List.{flat_map}
 use Rattle.ifl_pcap.specs.File.{record_of, written_header}
 use Rattle.ifl_pcap.proofs.writing.write_capture.Given as goal
 
-abbrev pub invariant-loop-f : goal.invariant-loop-f
-invariant-loop-f l = l.out.items ≡ written_header ++ flat_map record_of (take l.f-index l.frames)
+abbrev pub invariant-loop-i : goal.invariant-loop-i
+invariant-loop-i l = l.out.items ≡ written_header ++ flat_map record_of (take l.i l.c.frames)
