@@ -1,5 +1,11 @@
 pub mod Records
+pub mod Outcomes
 pub mod Splitting
 pub mod Returning
 pub mod Engines
+pub mod Following
+pub mod Setting
 pub mod Moves
+pub mod Voiding
+pub mod Receiving
+pub mod Stopped

@@ -1,34 +1,10 @@
--- The frames of a list of descriptors, and the records that they are on the wire.
-use Rattle.std.specs.Prelude.{◌≡◌, ℕ, ◌+◌, List, [], ◌∷◌, ◌++◌, length, true, false, cond}
-use Rattle.ifl_base.specs.declared.ticket.Stamp.{Stamp}
+-- The frames of a list of descriptors, how they are returned, and the records that they are on the wire.
+use Rattle.std.specs.Prelude.{◌≡◌, ℕ, ◌+◌, List, [], ◌∷◌, Bool, length, map, true, false, cond}
 use Rattle.ifl_pcap.specs.declared.frame.Frame.{Frame}
-use Rattle.ifl_desc.specs.declared.desc.Status.TheVariants.{Emitted}
+use Rattle.ifl_desc.specs.declared.desc.Status.{Status}
+use Rattle.ifl_desc.specs.declared.desc.Status.TheVariants.{Posted, Emitted, Aborted, Flushed, Filled, Unused}
 use Rattle.ifl_desc.specs.declared.desc.Desc.{Desc}
-
--- the entries behind a marked one, up to and with the next marked one, where p stood before ds
-abbrev pub frames_from : List Desc → List Desc → List (List Desc)
-frames_from p [] = []
-frames_from p (d ∷ ds) = cond d.last ((p ++ d ∷ []) ∷ frames_from [] ds) (frames_from (p ++ d ∷ []) ds)
-
--- the frames of a list
-abbrev pub frames_of : List Desc → List (List Desc)
-frames_of ds = frames_from [] ds
-
--- the last entry alone is marked
-abbrev pub IsWholeFrame : List Desc → Type 0
-IsWholeFrame [] = ⊥
-IsWholeFrame (d ∷ []) = d.last ≡ true
-IsWholeFrame (d ∷ (x ∷ ds)) = (d.last ≡ false) × IsWholeFrame (x ∷ ds)
-
--- the bytes of a frame: those of its entries, joined
-abbrev pub bytes_of : List Desc → List ℕ
-bytes_of [] = []
-bytes_of (d ∷ ds) = d.seg.bytes ++ bytes_of ds
-
--- the stamp of a frame: that of its first entry
-abbrev pub stamp_of : List Desc → Stamp
-stamp_of [] = record { sec = 0; usec = 0; orig = 0 }
-stamp_of (d ∷ ds) = d.stamp
+use Rattle.ifl_desc.specs.Frames.{bytes_of, stamp_of}
 
 -- the frame as a capture has it
 abbrev pub captured : List Desc → Frame
@@ -38,6 +14,50 @@ captured ds = record { stamp = stamp_of ds; bytes = bytes_of ds }
 abbrev pub record_size : List Desc → ℕ
 record_size ds = 16 + length (bytes_of ds)
 
--- an entry as it is returned once its frame is on the wire
-abbrev pub emitted_as : Desc → Desc
-emitted_as d = record d { status = Emitted }
+-- an entry as it is returned with this status
+abbrev pub returned_as : Status → Desc → Desc
+returned_as s d = record d { status = s }
+
+-- an entry as it was posted, whatever became of it
+abbrev pub as_posted : Desc → Desc
+as_posted d = returned_as Posted d
+
+-- what became of a frame: the status of its first entry
+abbrev pub status_of : List Desc → Status
+status_of [] = Posted
+status_of (d ∷ ds) = d.status
+
+-- what may become of a frame that is to be transmitted
+abbrev pub IsOutcome : Status → Type 0
+IsOutcome Posted = ⊥
+IsOutcome Emitted = Unit {0}
+IsOutcome Aborted = Unit {0}
+IsOutcome Flushed = Unit {0}
+IsOutcome Filled = ⊥
+IsOutcome Unused = ⊥
+
+-- a frame as it is returned: all its entries have one status
+abbrev pub IsReturned : List Desc → Type 0
+IsReturned ds = IsOutcome (status_of ds) × (map (returned_as (status_of ds)) ds ≡ ds)
+
+-- each of these frames is returned so
+abbrev pub AreReturned : List (List Desc) → Type 0
+AreReturned [] = Unit {0}
+AreReturned (f ∷ fs) = IsReturned f × AreReturned fs
+
+abbrev pub is_emitted : Status → Bool
+is_emitted Posted = false
+is_emitted Emitted = true
+is_emitted Aborted = false
+is_emitted Flushed = false
+is_emitted Filled = false
+is_emitted Unused = false
+
+-- those frames that were emitted
+abbrev pub emitted_among : List (List Desc) → List (List Desc)
+emitted_among [] = []
+emitted_among (f ∷ fs) = cond (is_emitted (status_of f)) (f ∷ emitted_among fs) (emitted_among fs)
+
+-- what of these, which got this status, is on the wire: all, or nothing
+abbrev pub on_wire : {X : Type 0} → Status → List X → List X
+on_wire s xs = cond (is_emitted s) xs []
