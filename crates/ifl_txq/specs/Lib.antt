@@ -1,0 +1,11 @@
+pub mod Items
+pub mod Tables
+pub mod Log
+pub mod Tallies
+pub mod Frames
+pub mod Encap
+pub mod Queue
+pub mod Standing
+pub mod Calls
+pub mod Steps
+pub mod Done
