@@ -18,7 +18,9 @@ use Rattle.ifl_conf.specs.Served.{is_form_served}
 use Rattle.ifl_conf.specs.Clashes.{names_clash, is_value, is_read, clashes}
 use Rattle.ifl_conf.specs.Reading.{Reading, no_command, unknown_command, refused, names, asks, reading_of, command_reading, reading}
 use Rattle.ifl_conf.specs.Commands.{ShowsSend, Answers, IsServed}
-use Rattle.ifl_engine.specs.Words.{Named, Asked, send, trace, asked, asked_of, named, first_name}
+use Rattle.ifl_engine.specs.declared.stop.WordsWhy.{WordsWhy}
+use Rattle.ifl_engine.specs.declared.stop.Stop.{Stop}
+use Rattle.ifl_engine.specs.Words.{Named, Asked, send, trace, asked, asked_of, named, first_name, stop_by_words}
 use Rattle.ifl_engine.specs.Read.{names_of, GivesWords, IsApart}
 
 -- ---- what was read is what is asked for
@@ -32,13 +34,18 @@ named_is s gs fs h =
     let same : named gs fs ≡ files_named (option_map string_bytes s.settings) (string_bytes s.wire) (string_bytes s.order) (first_name (map string_bytes s.files.items)) = rw (h.settings, h.wire, h.order, h.files) refl in
     same
 
-abbrev ask_send : Named → Result Asked WordFault
+abbrev ask_send : Named → Result Asked WordsWhy
 ask_send n = Ok (send n)
 
-abbrev ask_trace : List (List ℕ) → Result Asked WordFault
+abbrev ask_trace : List (List ℕ) → Result Asked WordsWhy
 ask_trace fs = Ok (trace (first_name fs))
 
-pub gives_of : (result : Result Command WordFault) (r : Reading) → Answers result r → IfOk result IsServed → GivesWords result (asked_of r)
+-- what was read, with the stop for its fault
+abbrev pub as_stop : Result Command WordFault → Result Command Stop
+as_stop (Ok command) = Ok command
+as_stop (Err e) = Err (stop_by_words e)
+
+gives_of : (result : Result Command WordFault) (r : Reading) → Answers result r → IfOk result IsServed → GivesWords (as_stop result) (asked_of r)
 gives_of (Ok (command.Send s)) r h served = ap asked_of h.3 ∙ ap (λ (d : _). asked_of (asks d h.1 h.2)) h.4.0 ∙ ap ask_send (named_is s h.1 h.2 h.4.1)
 gives_of (Ok (command.Trace file)) r h served = ap asked_of h.3 ∙ ap (λ (d : _). asked_of (asks d h.1 h.2)) h.4.0 ∙ ap ask_trace h.4.1
 gives_of (Ok (command.Gen g)) r h served = served
@@ -49,7 +56,7 @@ gives_of (Err fault.Refused) r h served = ap asked_of h
 gives_of (Err fault.Names) r h served = ap asked_of h
 gives_of (Err fault.Memory) r h served = tt
 
-pub gives : (words : List (List ℕ)) (result : Result Command WordFault) → Answers result (reading words) → IfOk result IsServed → GivesWords result (asked words)
+pub gives : (words : List (List ℕ)) (result : Result Command WordFault) → Answers result (reading words) → IfOk result IsServed → GivesWords (as_stop result) (asked words)
 unfolding asked
 gives words result h served = gives_of result (reading words) h served
 

@@ -1,63 +1,67 @@
--- Each clause of a top call is a part of what is said of its answer for one account of the files.
-use Rattle.std.proofs.Common.{◌≡◌, ◌≢◌, ℕ, Option, Some, None, Result, inl, inr}
+-- What holds of an answer whichever account it goes by.
+use Rattle.std.proofs.Common.{◌≡◌, ◌≢◌, ◌⊎◌, ℕ, Bool, true, false, cond, List, Option, Some, None, Result, Ok, Err, refl, arith, inl, inr}
 use Rattle.std.specs.Prelude.{IfSome, IsNone}
-use Rattle.ifl_outside.specs.Files.{Files}
-use Rattle.ifl_outside.specs.Told.{BothTold}
 use Rattle.ifl_outside.specs.Causes.{Rose}
-use Rattle.ifl_engine.specs.declared.report.Finished.{Finished}
+use Rattle.ifl_pcap.specs.declared.frame.Frame.{Frame}
 use Rattle.ifl_engine.specs.declared.report.Report.{Report}
+use Rattle.ifl_engine.specs.declared.report.Finished.{Finished}
 use Rattle.ifl_engine.specs.declared.stop.Stop.{Stop}
 use Rattle.ifl_engine.specs.Words.{Named}
-use Rattle.ifl_engine.specs.Wanted.{Source, Work}
+use Rattle.ifl_engine.specs.Wanted.{Work, sending, tracing}
 use Rattle.ifl_engine.specs.Report.{IsGood}
 use Rattle.ifl_engine.specs.Seen.{Seen}
-use Rattle.ifl_engine.specs.Left.{IsStanding}
-use Rattle.ifl_engine.specs.CutShort.{IsCutShort}
-use Rattle.ifl_engine.specs.Answer.{ForFiles, IfSending, IsReported, IsDone, IsStatus, IsCalledFor, Tells, IsReplayed, IsAnswer}
-use Rattle.ifl_engine.proofs.ReadLaws.{for_each, from_files}
+use Rattle.ifl_engine.specs.Account.{Source, IsAccount, gave}
+use Rattle.ifl_engine.specs.Tracing.{IsReplay, IsLegalSchedule}
+use Rattle.ifl_ringcore.specs.Trace.{is_legal}
+use Rattle.ifl_outside.specs.Files.{Files, held}
+use Rattle.ifl_engine.specs.declared.stop.Input.{Input}
+use Rattle.ifl_engine.specs.Answer.{IfSending, CallsFor, IsStatus, IsRefusal, IsAnswer}
 
-pub called_for : (w : Result Work Stop) (status : ℕ) → IsStatus w status → status ≢ 5 → IsCalledFor w status
-called_for w status h other = elim h [ inl e ↦ inl e | inr f ↦ elim f [ inl five ↦ absurd (other five) | inr six ↦ inr six ] ]
+sending_refused : (w : Result Work Stop) (status : ℕ) (P : ℕ → List (List Frame) → Type 0) → IfSending w P → IsStatus w status → IsRefusal status → ⊥
+sending_refused (Ok (sending names max_frame captures)) status P h is refusal = elim is [ inl zero ↦ refusal.no_success zero | inr other ↦ elim other [ inl six ↦ refusal.no_want six | inr five ↦ refusal.no_failure five.0 ] ]
+sending_refused (Ok (tracing schedule)) status P h is refusal = h
+sending_refused (Err why) status P h is refusal = h
 
-pub is_told : (names : Named) (w : Result Work Stop) (before after : Seen) (result : Finished) → IsAnswer names w before after result → ¬ Rose before.faults after.faults → result.status ≢ 6 → Tells names w result.status before.printed after.printed
-is_told names w before after result h steady ample = elim (h.told (λ five. steady (h.failed five)) ample) [ inl rose ↦ absurd (steady rose) | inr line ↦ line ]
+no_report : (w : Result Work Stop) (status : ℕ) (report : Option Report) → IfSome report (λ r. IfSending w (λ max_frame captures. IsGood max_frame captures r)) → IsStatus w status → IsRefusal status → report ≡ None
+no_report w status None good is refusal = refl
+no_report w status (Some r) good is refusal = absurd (sending_refused w status (λ max_frame captures. IsGood max_frame captures r) good is refusal)
 
-pub for_report : (o : Option Report) (files : Option Files) (Q : Source → Report → Type 0) → ForFiles files (λ source. IfSome o (Q source)) → IfSome o (λ r. ForFiles files (λ source. Q source r))
-for_report None files Q h = tt
-for_report (Some r) files Q h = h
+-- after a refusal there is no report, and no file was written
+pub refused : (names : Named) (w : Result Work Stop) (before after : Seen) (result : Finished) → IsAnswer names w before after result → IsRefusal result.status → (result.report ≡ None) × (after.files ≡ before.files)
+refused names w before after result h refusal =
+    let none = no_report w result.status result.report h.good h.status refusal in
+    (none, h.untouched (rw none refl))
 
-abbrev pub Answering : Named → (Source → Result Work Stop) → Seen → Seen → Finished → Source → Type 0
-Answering names w before after result source = IsAnswer names (w source) before after result
+pub failed : (names : Named) (w : Result Work Stop) (before after : Seen) (result : Finished) → IsAnswer names w before after result → result.status ≡ 5 → Rose before.faults after.faults
+failed names w before after result h = h.failed
 
-pub clause_status : (files : Option Files) (names : Named) (w : Source → Result Work Stop) (before after : Seen) (result : Finished) → ForFiles files (Answering names w before after result) → ForFiles files (λ source. IsStatus (w source) result.status)
-clause_status files names w before after result h = for_each files (Answering names w before after result) (λ source. IsStatus (w source) result.status) (λ source a. a.status) h
+pub untouched : (names : Named) (w : Result Work Stop) (before after : Seen) (result : Finished) → IsAnswer names w before after result → IsNone result.report → after.files ≡ before.files
+untouched names w before after result h = h.untouched
 
-pub clause_failed : (files : Option Files) (names : Named) (w : Source → Result Work Stop) (before after : Seen) (result : Finished) → ForFiles files (Answering names w before after result) → result.status ≡ 5 → Rose before.faults after.faults
-clause_failed files names w before after result h = from_files files (Answering names w before after result) (result.status ≡ 5 → Rose before.faults after.faults) (λ source a. a.failed) h
+-- without a fault an account is what the host tells
+pub told_files : (fs : Files) (source : Source) (before after : ℕ) → ¬ Rose before after → IsAccount (Some fs) (Rose before after) source → (which : Input) (name : List ℕ) → source which name ≡ gave (held fs name)
+told_files fs source before after steady h which name = elim (h.told which name) [ inl is ↦ absurd (steady (h.blamed which name is)) | inr is ↦ is ]
 
-pub clause_complete : (files : Option Files) (names : Named) (w : Source → Result Work Stop) (before after : Seen) (result : Finished) → ForFiles files (Answering names w before after result) → ¬ Rose before.faults after.faults → ForFiles files (λ source. IsCalledFor (w source) result.status)
-clause_complete files names w before after result h steady = for_each files (Answering names w before after result) (λ source. IsCalledFor (w source) result.status) (λ source a. called_for (w source) result.status a.status (λ five. steady (a.failed five))) h
+-- without a fault the status is the one that is called for, or that of memory
+pub complete : (names : Named) (w : Result Work Stop) (before after : Seen) (result : Finished) → IsAnswer names w before after result → ¬ Rose before.faults after.faults → CallsFor w result.status ⊎ (result.status ≡ 6)
+complete names w before after result h steady = elim h.status [ inl is ↦ inl is | inr other ↦ elim other [ inl six ↦ inr six | inr five ↦ absurd (steady (h.failed five.0)) ] ]
 
-pub clause_good : (files : Option Files) (names : Named) (w : Source → Result Work Stop) (before after : Seen) (result : Finished) → ForFiles files (Answering names w before after result) → IfSome result.report (λ r. ForFiles files (λ source. IfSending (w source) (λ max_frame captures. IsGood max_frame captures r)))
-clause_good files names w before after result h = for_report result.report files (λ source r. IfSending (w source) (λ max_frame captures. IsGood max_frame captures r)) (for_each files (Answering names w before after result) (λ source. IfSome result.report (λ r. IfSending (w source) (λ max_frame captures. IsGood max_frame captures r))) (λ source a. a.good) h)
+unreported_by : (why : Stop) (report : Option Report) → IfSome report (λ r. IfSending (Err why) (λ max_frame captures. IsGood max_frame captures r)) → report ≡ None
+unreported_by why None good = refl
+unreported_by why (Some r) good = absurd good
 
-pub clause_there : (files : Option Files) (names : Named) (w : Source → Result Work Stop) (before after : Seen) (result : Finished) → ForFiles files (Answering names w before after result) → result.status ≡ 0 → ForFiles files (λ source. IsReported (w source) result.report)
-clause_there files names w before after result h zero = for_each files (Answering names w before after result) (λ source. IsReported (w source) result.report) (λ source a. a.there zero) h
+-- what stops a run before its frames are sent leaves no report
+pub unreported : (names : Named) (why : Stop) (before after : Seen) (result : Finished) → IsAnswer names (Err why) before after result → result.report ≡ None
+unreported names why before after result h = unreported_by why result.report h.good
 
-pub clause_done : (files : Option Files) (names : Named) (w : Source → Result Work Stop) (before after : Seen) (result : Finished) → ForFiles files (Answering names w before after result) → result.status ≡ 0 → IfSome result.report (λ r. IsDone names r before after)
-clause_done files names w before after result h = from_files files (Answering names w before after result) (result.status ≡ 0 → IfSome result.report (λ r. IsDone names r before after)) (λ source a. a.done) h
+-- a replay ends with 0 or 9
+traced : (b : Bool) (status : ℕ) → status ≡ cond b 0 9 → status ≢ 5
+traced true status is = λ five. absurd (omega (arith, is, five))
+traced false status is = λ five. absurd (omega (arith, is, five))
 
-pub clause_untouched : (files : Option Files) (names : Named) (w : Source → Result Work Stop) (before after : Seen) (result : Finished) → ForFiles files (Answering names w before after result) → IsNone result.report → after.files ≡ before.files
-clause_untouched files names w before after result h = from_files files (Answering names w before after result) (IsNone result.report → after.files ≡ before.files) (λ source a. a.untouched) h
+no_five : (schedule text : List ℕ) (status : ℕ) → IsReplay schedule text status → status ≢ 5
+no_five schedule text status h = elim h [ inl t ↦ traced (is_legal t.schedule) status t.ends | inr b ↦ λ five. absurd (omega (arith, b.ends, five)) ]
 
-pub clause_told : (files : Option Files) (names : Named) (w : Source → Result Work Stop) (before after : Seen) (result : Finished) → ForFiles files (Answering names w before after result) → ¬ Rose before.faults after.faults → result.status ≢ 6 → ForFiles files (λ source. Tells names (w source) result.status before.printed after.printed)
-clause_told files names w before after result h steady ample = for_each files (Answering names w before after result) (λ source. Tells names (w source) result.status before.printed after.printed) (λ source a. is_told names (w source) before after result a steady ample) h
-
-pub clause_replayed : (files : Option Files) (names : Named) (w : Source → Result Work Stop) (before after : Seen) (result : Finished) → ForFiles files (Answering names w before after result) → result.status ≢ 5 → result.status ≢ 6 → ForFiles files (λ source. IsReplayed (w source) result.status before.printed after.printed)
-clause_replayed files names w before after result h b c = for_each files (Answering names w before after result) (λ source. IsReplayed (w source) result.status before.printed after.printed) (λ source a. a.replayed b c) h
-
-pub clause_stopped : (files : Option Files) (names : Named) (w : Source → Result Work Stop) (before after : Seen) (result : Finished) → ForFiles files (Answering names w before after result) → result.status ≢ 0 → result.status ≢ 9 → ForFiles files (λ source. IsCutShort names (w source) before after result)
-clause_stopped files names w before after result h bad legal = for_each files (Answering names w before after result) (λ source. IsCutShort names (w source) before after result) (λ source a. a.stopped bad legal) h
-
-pub clause_left : (files : Option Files) (names : Named) (w : Source → Result Work Stop) (before after : Seen) (result : Finished) → ForFiles files (Answering names w before after result) → IfSome result.report (λ r. BothTold before.files after.files (IsStanding names r))
-clause_left files names w before after result h = from_files files (Answering names w before after result) (IfSome result.report (λ r. BothTold before.files after.files (IsStanding names r))) (λ source a. a.left) h
+-- a schedule's status is 5 only where it is legal
+pub legal_at_five : (names : Named) (schedule : List ℕ) (before after : Seen) (result : Finished) → IsAnswer names (Ok (tracing schedule)) before after result → result.status ≡ 5 → IsLegalSchedule schedule
+legal_at_five names schedule before after result h five = elim h.status [ inl is ↦ absurd (no_five schedule is.0 result.status is.1 five) | inr other ↦ elim other [ inl six ↦ absurd (omega (arith, five, six)) | inr output ↦ output.1 ] ]

@@ -9,7 +9,9 @@ use Rattle.ifl_engine.specs.declared.report.Report.{Report}
 use Rattle.ifl_engine.specs.declared.report.Finished.{Finished}
 use Rattle.ifl_engine.specs.declared.stop.Stop.{Stop}
 use Rattle.ifl_engine.specs.Words.{Named}
-use Rattle.ifl_engine.specs.Wanted.{Work, status_of, line_of}
+use Rattle.ifl_engine.specs.Wanted.{Work}
+use Rattle.ifl_engine.specs.Status.{status_of}
+use Rattle.ifl_engine.specs.FaultLines.{line_of}
 use Rattle.ifl_engine.specs.Seen.{Seen}
 use Rattle.ifl_engine.specs.Left.{IsLeft}
 use Rattle.ifl_engine.specs.CutShort.{RoseTwice, IsEnding, IsBegun, IsBroken, IsStopOf, IsCutShort}
@@ -56,9 +58,9 @@ broken names Ending why Whole was mid now line begins whole begun is = record {
 
 -- a stop is told, whatever was printed before that
 pub cut_short : (names : Named) (work : Result Work Stop) (report : Option Report) (why : Stop) (before mid after : Seen) (status : ℕ)
-    → IsStopOf work report why → (status_of why ≢ 5 → status_of why ≢ 6 → work ≡ Err why) → IfSome report (λ r. BothTold before.files mid.files (IsLeft names r why)) → BothTold before.printed mid.printed (Begins why (IsEnding work report)) → (status_of why ≡ 5 → Rose before.faults mid.faults)
+    → IsStopOf work report why → IfSome report (λ r. BothTold before.files mid.files (IsLeft names r why)) → BothTold before.printed mid.printed (Begins why (IsEnding work report)) → (status_of why ≡ 5 → Rose before.faults mid.faults)
     → IsTold names why mid after status → IsCutShort names work before after (record { status = status; report = report })
-cut_short names work report why before mid after status here called left begun rose told =
+cut_short names work report why before mid after status here left begun rose told =
     let Whole : Type 0 = (status ≡ 5) × ¬ RoseTwice before.faults after.faults in
     let Broken : List ℕ → List ℕ → Type 0 = IsBroken names (IsEnding work report) why Whole in
     let five : status ≡ 5 → status_of why ≡ 5 = λ is. elim (told.status) [ inl e ↦ sym e ∙ is | inr e ↦ absurd (omega (arith, e, is)) ] in
@@ -66,7 +68,6 @@ cut_short names work report why before mid after status here called left begun r
       why = why;
       status = told.status;
       here = here;
-      called = called;
       left = rw told.files left;
       printed = elim (told.line) [
         | inl six ↦ told_then before.printed mid.printed after.printed _ _ Broken (λ x y z b t. broken names (IsEnding work report) why Whole x y z (take t.0 (line_of names why)) (t.0, refl) (λ w. absurd (omega (arith, w.0, six))) b t.1) begun told.begun
@@ -89,7 +90,6 @@ moved names work before mid after result files printed later h =
       why = h.why;
       status = h.status;
       here = h.here;
-      called = h.called;
       left = rw files at h.left;
       printed = told_then before.printed mid.printed after.printed _ (Broken mid) (Broken before) (λ x y z same b. record {
         part = b.part;

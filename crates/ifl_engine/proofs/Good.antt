@@ -24,7 +24,7 @@ use Rattle.ifl_engine.specs.declared.report.Report.{Report}
 use Rattle.ifl_engine.specs.Records.{ticket, tickets_from, all_tickets, frame_of, verdict_at}
 use Rattle.ifl_engine.specs.Lawful.{IsInFileOrder, IsBefore, verdict_for}
 use Rattle.ifl_engine.specs.PlainList.{judged_of, is_fit_verdict, is_fit, order_by, away_by, order_part, away_part, order_of, away_of}
-use Rattle.ifl_engine.specs.Report.{IsGood, on_wire, emitted, is_runt, is_oversize, counts_of}
+use Rattle.ifl_engine.specs.Report.{IsGood, AreOnWire, on_wire, emitted, is_runt, is_oversize, counts_of}
 
 abbrev fits : Option Judged → Bool
 fits None = false
@@ -44,8 +44,9 @@ record Parts (max_frame : ℕ) (captures : List (List Frame)) (k : ℕ) (fs : Li
   order_tickets : map order_ticket order ≡ filter (fit_at max_frame captures) (tickets_from 0 k fs)
   away_tickets : map away_ticket turned ≡ filter (λ t. not (fit_at max_frame captures t)) (tickets_from 0 k fs)
   sent : emitted captures order ≡ filter (is_fit max_frame) fs
+  aboard : AreOnWire order
   fit : All (λ (l : OrderLine). verdict_at max_frame captures l.ticket ≡ Some judged.Fit) order
-  turned_away : All (λ (l : AwayLine). verdict_at max_frame captures l.ticket ≡ Some (verdict_for l.away)) turned
+  turned_away : All (λ (l : AwayLine). verdict_at max_frame captures l.ticket ≡ verdict_for l.away) turned
   order_above : All (λ (l : OrderLine). k ≤ l.ticket.index) order
   away_above : All (λ (l : AwayLine). (l.ticket.sender ≡ 0) × (k ≤ l.ticket.index)) turned
   in_file_order : AllPairs IsInFileOrder order
@@ -67,6 +68,7 @@ step max_frame captures k f fs order turned judged.Fit is at found rest =
       order_tickets = rw at (ap (λ (ts : List Ticket). ticket 0 k ∷ ts) rest.order_tickets);
       away_tickets = rw at rest.away_tickets;
       sent = rw (found, passes) (ap (λ (gs : List Frame). f ∷ gs) rest.sent);
+      aboard = (refl, rest.aboard);
       fit = All-cons (λ (l : OrderLine). verdict_at max_frame captures l.ticket ≡ Some judged.Fit) line order at rest.fit;
       turned_away = rest.turned_away;
       order_above = All-cons (λ (l : OrderLine). k ≤ l.ticket.index) line order (omega arith) (lower k order rest.order_above);
@@ -81,8 +83,9 @@ step max_frame captures k f fs order turned judged.Runt is at found rest =
       order_tickets = rw at rest.order_tickets;
       away_tickets = rw at (ap (λ (ts : List Ticket). ticket 0 k ∷ ts) rest.away_tickets);
       sent = rw fails rest.sent;
+      aboard = rest.aboard;
       fit = rest.fit;
-      turned_away = All-cons (λ (l : AwayLine). verdict_at max_frame captures l.ticket ≡ Some (verdict_for l.away)) line turned at rest.turned_away;
+      turned_away = All-cons (λ (l : AwayLine). verdict_at max_frame captures l.ticket ≡ verdict_for l.away) line turned at rest.turned_away;
       order_above = lower k order rest.order_above;
       away_above = All-cons (λ (l : AwayLine). (l.ticket.sender ≡ 0) × (k ≤ l.ticket.index)) line turned (refl, omega arith) (away_lower k turned rest.away_above);
       in_file_order = rest.in_file_order;
@@ -95,8 +98,9 @@ step max_frame captures k f fs order turned judged.Oversize is at found rest =
       order_tickets = rw at rest.order_tickets;
       away_tickets = rw at (ap (λ (ts : List Ticket). ticket 0 k ∷ ts) rest.away_tickets);
       sent = rw fails rest.sent;
+      aboard = rest.aboard;
       fit = rest.fit;
-      turned_away = All-cons (λ (l : AwayLine). verdict_at max_frame captures l.ticket ≡ Some (verdict_for l.away)) line turned at rest.turned_away;
+      turned_away = All-cons (λ (l : AwayLine). verdict_at max_frame captures l.ticket ≡ verdict_for l.away) line turned at rest.turned_away;
       order_above = lower k order rest.order_above;
       away_above = All-cons (λ (l : AwayLine). (l.ticket.sender ≡ 0) × (k ≤ l.ticket.index)) line turned (refl, omega arith) (away_lower k turned rest.away_above);
       in_file_order = rest.in_file_order;
@@ -108,6 +112,7 @@ nothing max_frame captures k = record {
   order_tickets = refl;
   away_tickets = refl;
   sent = refl;
+  aboard = tt;
   fit = λ i d lt. absurd (omega arith);
   turned_away = λ i d lt. absurd (omega arith);
   order_above = λ i d lt. absurd (omega arith);
@@ -132,9 +137,9 @@ length-tickets : (s k : ℕ) (fs : List Frame) → length (tickets_from s k fs) 
 length-tickets s k [] = refl
 length-tickets s k (f ∷ fs) = ap suc (length-tickets s (k + 1) fs)
 
-all_on_wire : (order : List OrderLine) → count_by (λ (l : OrderLine). on_wire l.fate) order ≡ length order
-all_on_wire [] = refl
-all_on_wire (l ∷ order) = sum_by-cons (λ (m : OrderLine). cond (on_wire m.fate) 1 0) l order ∙ elim (l.fate) as (λ (t : Fate). cond (on_wire t) 1 0 + count_by (λ (m : OrderLine). on_wire m.fate) order ≡ suc (length order)) [ fate.Wire ↦ omega (arith, all_on_wire order) ]
+all_on_wire : (order : List OrderLine) → AreOnWire order → count_by (λ (l : OrderLine). on_wire l.fate) order ≡ length order
+all_on_wire [] w = refl
+all_on_wire (l ∷ order) w = sum_by-cons (λ (m : OrderLine). cond (on_wire m.fate) 1 0) l order ∙ ap (λ (t : Fate). cond (on_wire t) 1 0 + count_by (λ (m : OrderLine). on_wire m.fate) order) w.0 ∙ (let r = all_on_wire order w.1 in (let g : 1 + count_by (λ (m : OrderLine). on_wire m.fate) order ≡ suc (length order) = omega arith in g))
 
 abbrev made : ℕ → ℕ → ℕ → ℕ → ℕ → ℕ → ℕ → ℕ → ℕ → ℕ → Plain
 made a b c d e f g h i j = record { frames = a; wire = b; wire_bytes = c; runt = d; oversize = e; no_buffers = f; no_clusters = g; too_many_segments = h; reset = i; flush = j }
@@ -153,6 +158,7 @@ good max_frame fs r order-is away-is wire-is n w b ru ov z1 z2 z3 z4 z5 =
     let both : IsPermutation (tickets_from 0 0 fs) (filter (fit_at max_frame (fs ∷ [])) (tickets_from 0 0 fs) ++ filter (λ t. not (fit_at max_frame (fs ∷ []) t)) (tickets_from 0 0 fs)) = IsPermutation-filter_both (fit_at max_frame (fs ∷ [])) (λ t. not (fit_at max_frame (fs ∷ []) t)) (λ t. refl) (tickets_from 0 0 fs) in
     let same : filter (fit_at max_frame (fs ∷ [])) (tickets_from 0 0 fs) ++ filter (λ t. not (fit_at max_frame (fs ∷ []) t)) (tickets_from 0 0 fs) ≡ map order_ticket r.order ++ map away_ticket r.away = rw (order-is, away-is, p.order_tickets, p.away_tickets) refl in
     let sent : emitted (fs ∷ []) r.order ≡ filter (is_fit max_frame) fs = ap (emitted (fs ∷ [])) order-is ∙ p.sent in
+    let aboard : AreOnWire r.order = subst AreOnWire (sym order-is) p.aboard in
     let count : length (all_tickets (fs ∷ [])) ≡ length fs = ap length all ∙ length-tickets 0 0 fs in
     record {
       lawful = record {
@@ -160,8 +166,9 @@ good max_frame fs r order-is away-is wire-is n w b ru ov z1 z2 z3 z4 z5 =
         in_file_order = subst (AllPairs IsInFileOrder) (sym order-is) p.in_file_order;
         away_in_order = subst (AllPairs IsBefore) (sym away-is) p.away_in_order;
         fit = subst (All (λ (l : OrderLine). verdict_at max_frame (fs ∷ []) l.ticket ≡ Some judged.Fit)) (sym order-is) p.fit;
-        turned_away = subst (All (λ (l : AwayLine). verdict_at max_frame (fs ∷ []) l.ticket ≡ Some (verdict_for l.away))) (sym away-is) p.turned_away;
+        turned_away = subst (All (λ (l : AwayLine). verdict_at max_frame (fs ∷ []) l.ticket ≡ verdict_for l.away)) (sym away-is) p.turned_away;
       };
+      sent = aboard;
       wire = wire-is ∙ ap written (sym sent);
-      plain = plain_is r.plain (counts_of (fs ∷ []) r.order r.away) (n ∙ sym count) (w ∙ sym (all_on_wire r.order)) (b ∙ ap (sum_by (λ (f : Frame). length f.bytes)) (sym sent)) ru ov z1 z2 z3 z4 z5;
+      plain = plain_is r.plain (counts_of (fs ∷ []) r.order r.away) (n ∙ sym count) (w ∙ sym (all_on_wire r.order aboard)) (b ∙ ap (sum_by (λ (f : Frame). length f.bytes)) (sym sent)) ru ov z1 z2 z3 z4 z5;
     }

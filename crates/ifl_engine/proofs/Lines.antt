@@ -1,14 +1,18 @@
 -- A turn of a loop that puts lines, and the length of a written capture.
-use Rattle.std.proofs.Common.{◌≡◌, Bool, true, false, cond, ℕ, zero, suc, ◌+◌, ◌*◌, ◌<◌, ◌≤◌, List, [], ◌∷◌, ◌++◌, length, get_or, take, refl, sym, ap, ◌∙◌, arith}
+use Rattle.std.proofs.Common.{◌≡◌, Bool, true, false, cond, ℕ, zero, suc, ◌+◌, ◌*◌, ◌<◌, ◌≤◌, List, [], ◌∷◌, ◌++◌, length, get_or, take, refl, sym, ap, ◌∙◌, arith, inl, inr}
 use Rattle.std.specs.Prelude.{sum_by, filter}
 use Rattle.std.specs.List.{flat_map, enumerate_from, AllByRecursion}
+use Rattle.std.proofs.lemmas.Bool.{lt-ltb, le-ltb}
+use Rattle.std.proofs.lemmas.Bool.Decides.{leb_tells}
 use Rattle.std.proofs.lemmas.Grind.{flat_map-append}
 use Rattle.std.proofs.lemmas.List.{take_more, append-nil, length-append}
 use Rattle.std.proofs.lemmas.List.FromFn.{length-enumerate_from, get_or-enumerate_from}
 use Rattle.std.proofs.lemmas.List.Concat.{flat_map-cons}
 use Rattle.std.proofs.lemmas.List.Sums.{sum_by-cons}
 use Rattle.ifl_pcap.specs.declared.frame.Frame.{Frame}
-use Rattle.ifl_pcap.specs.File.{record_of, written, written_header, IsFile, Fits}
+use Rattle.ifl_pcap.specs.File.{record_of, written, written_header, IsFile, IsShort, Fits}
+use Rattle.ifl_pcap.specs.Table.{has_length}
+use Rattle.ifl_engine.specs.PlainList.{is_fit}
 use Rattle.ifl_pcap.proofs.Parts.{length-record_of}
 use Rattle.ifl_pcap.proofs.Files.{Fits-IsFile, length-IsFile}
 use Rattle.ifl_engine.specs.Steps.{IsSmall}
@@ -52,9 +56,22 @@ length-written fs = omega (arith, length-append written_header (flat_map record_
 pub is_small : (bytes : List ℕ) (fs : List Frame) → length bytes ≤ 67108864 → IsFile bytes fs → IsSmall fs
 is_small bytes fs le file = record { fit = Fits-IsFile bytes fs file; few = omega (arith, le, length-IsFile bytes fs file) }
 
-pub fits_kept : (p : Frame → Bool) (fs : List Frame) → AllByRecursion Fits fs → AllByRecursion Fits (filter p fs)
-fits_kept p [] h = tt
-fits_kept p (f ∷ fs) h = elim (p f) as (λ b. AllByRecursion Fits (cond b (f ∷ filter p fs) (filter p fs))) [ true ↦ (h.0, fits_kept p fs h.1) | false ↦ fits_kept p fs h.1 ]
+pub short_kept : (p : Frame → Bool) (fs : List Frame) → AllByRecursion Fits fs → AllByRecursion IsShort (filter p fs)
+short_kept p [] h = tt
+short_kept p (f ∷ fs) h = elim (p f) as (λ b. AllByRecursion IsShort (cond b (f ∷ filter p fs) (filter p fs))) [ true ↦ (h.0.bytes, short_kept p fs h.1) | false ↦ short_kept p fs h.1 ]
+
+-- a fit frame has 14 bytes at least, and at most max_frame
+pub has_length-is_fit : (max_frame : ℕ) (f : Frame) → has_length 14 max_frame f ≡ is_fit max_frame f
+unfolding has_length is_fit
+has_length-is_fit max_frame f =
+    let len = length f.bytes in
+    elim (leb_tells 14 len) [
+      | inr short ↦ rw (short.0, lt-ltb len 14 short.1) refl
+      | inl long ↦ elim (leb_tells len max_frame) [
+        | inl small ↦ rw (long.0, small.0, le-ltb len 14 long.1, le-ltb max_frame len small.1) refl
+        | inr over ↦ rw (long.0, over.0, le-ltb len 14 long.1, lt-ltb max_frame len over.1) refl
+      ]
+    ]
 
 pub whole : {X A : Type 0} (g : X → List A) (xs : List X) (i : ℕ) → length xs ≤ i → flat_map g (take i xs) ≡ flat_map g xs
 whole g xs i le = ap (flat_map g) (take_all xs i le)

@@ -12,9 +12,10 @@ use Rattle.ifl_engine.specs.declared.stop.Stop.TheVariants as stop
 use Rattle.ifl_engine.specs.declared.stop.Input.TheVariants as input
 use Rattle.ifl_engine.specs.declared.reading.Load.{Load}
 use Rattle.ifl_engine.specs.Words.{Named}
-use Rattle.ifl_engine.specs.Wanted.{Held, Source, Bytes, ◌>>=◌, file_at, settings_file, bytes_read, max_frame_by, max_frame_in, load_in, read_of}
+use Rattle.ifl_engine.specs.Account.{Held, Source}
+use Rattle.ifl_engine.specs.Loading.{Bytes, ◌>>=◌, file_at, settings_file, bytes_read, max_frame_by, max_frame_in, load_in, read_of, stop_by_settings}
 use Rattle.ifl_engine.specs.Loaded.{load_seen}
-use Rattle.ifl_engine.specs.Steps.{IsRead, IsReadFailure, stop_by_settings}
+use Rattle.ifl_engine.specs.Steps.{IsRead, IsReadFailure}
 use Rattle.ifl_engine.proofs.ReadLaws.{bytes_of, IsRead-stopped, IsRead-then}
 
 -- ---- the most bytes of a frame
@@ -34,7 +35,7 @@ pub max_frame_in-set : (file : Option (List ℕ)) (bytes text : List ℕ) (n : �
 max_frame_in-set file bytes text n some same valid set =
     of_text file bytes text some same ∙ ap (λ (f : Option SettingFault). max_frame_by f (set_by text FramesMaxFrame)) valid ∙ ap (max_frame_by None) set
 
-max_frame_in-bad : (file : Option (List ℕ)) (bytes text : List ℕ) (e : SettingFault) → file ≡ Some bytes → text ≡ bytes → fault_of text ≡ Some e → max_frame_in file ≡ Err (stop.Settings e)
+max_frame_in-bad : (file : Option (List ℕ)) (bytes text : List ℕ) (e : SettingFault) → file ≡ Some bytes → text ≡ bytes → fault_of text ≡ Some e → max_frame_in file ≡ Err (stop_by_settings e)
 max_frame_in-bad file bytes text e some same fault = of_text file bytes text some same ∙ ap (λ (f : Option SettingFault). max_frame_by f (set_by text FramesMaxFrame)) fault
 
 abbrev IsRefused : Option (List ℕ) → Stop → Type 0

@@ -1,5 +1,5 @@
--- What was read is what the files hold, where they are told, and what some files hold, where they are not.
-use Rattle.std.proofs.Common.{◌≡◌, ℕ, zero, suc, ◌<◌, ◌≤◌, List, [], ◌∷◌, length, Option, Some, None, Result, Ok, Err, refl, sym, ap, subst, ◌∙◌, arith}
+-- What was read is what an account of the files says.
+use Rattle.std.proofs.Common.{◌≡◌, ◌≢◌, ◌⊎◌, ℕ, zero, suc, ◌<◌, ◌≤◌, List, [], ◌∷◌, length, Option, Some, None, Result, Ok, Err, refl, sym, ap, subst, ◌∙◌, arith, inl, inr}
 use Rattle.std.specs.Prelude.{IfSome, IsSomeAnd}
 use Rattle.std.specs.Global.{Vec}
 use Rattle.std.proofs.lemmas.Bool.{le-ltb, lt-ltb}
@@ -7,7 +7,7 @@ use Rattle.ifl_outside.specs.Files.{Files, held}
 use Rattle.ifl_outside.specs.Fetched.{IsFetch}
 use Rattle.ifl_outside.specs.declared.host.Fetch.TheVariants as fetch
 use Rattle.ifl_pcap.specs.declared.frame.Frame.{Frame}
-use Rattle.ifl_pcap.specs.declared.frame.Capture.{Capture}
+use Rattle.ifl_pcap.specs.declared.capture.Capture.{Capture}
 use Rattle.ifl_pcap.specs.declared.fault.CaptureWhy.{CaptureWhy}
 use Rattle.ifl_pcap.specs.declared.fault.CaptureFault.TheVariants.{Bad}
 use Rattle.ifl_pcap.specs.Reading.{capture_of}
@@ -15,16 +15,16 @@ use Rattle.ifl_engine.specs.declared.stop.Stop.{Stop}
 use Rattle.ifl_engine.specs.declared.stop.Stop.TheVariants as stop
 use Rattle.ifl_engine.specs.declared.stop.Input.{Input}
 use Rattle.ifl_engine.specs.declared.stop.Input.TheVariants as input
-use Rattle.ifl_engine.specs.Wanted.{Held, Source, ◌>>=◌, file_at, captures_in}
-use Rattle.ifl_engine.specs.Answer.{ForFiles}
+use Rattle.ifl_engine.specs.Account.{Reply, failed, gave, Held, Source, IsAccount, ForAccount}
+use Rattle.ifl_engine.specs.Loading.{◌>>=◌, file_at, captures_in}
 use Rattle.ifl_engine.specs.Steps.{IsRead}
 
 -- ---- what a file within its limit, an absent one and a longer one are read as
 
-pub file_at-within : (which : Input) (limit : ℕ) (bytes : List ℕ) → length bytes ≤ limit → file_at which limit (Some bytes) ≡ Ok bytes
+pub file_at-within : (which : Input) (limit : ℕ) (bytes : List ℕ) → length bytes ≤ limit → file_at which limit (gave (Some bytes)) ≡ Ok bytes
 file_at-within which limit bytes le = rw (le-ltb limit (length bytes) le) refl
 
-pub file_at-longer : (which : Input) (limit : ℕ) (bytes : List ℕ) → limit < length bytes → file_at which limit (Some bytes) ≡ Err (stop.TooLong which)
+pub file_at-longer : (which : Input) (limit : ℕ) (bytes : List ℕ) → limit < length bytes → file_at which limit (gave (Some bytes)) ≡ Err (stop.TooLong which)
 file_at-longer which limit bytes lt = rw (lt-ltb limit (length bytes) lt) refl
 
 -- some bytes that are longer than a number; kept abstract, so that nothing counts them out
@@ -39,40 +39,73 @@ long_at n (Some bytes) h = (bytes, refl, h)
 abbrev pub bytes_of : Vec ℕ → List ℕ
 bytes_of v = v.items
 
-pub for_bytes : (files : Option Files) (which : Input) (name : List ℕ) (limit : ℕ) (bytes : Vec ℕ) → length bytes.items ≤ limit → IfSome files (λ fs. IsFetch (held fs name) limit (fetch.Bytes bytes)) → ForFiles files (λ source. IsRead bytes_of (Ok bytes) (file_at which limit (source which name)))
-for_bytes None which name limit bytes short told = (λ n name. Some bytes.items, file_at-within which limit bytes.items short)
-for_bytes (Some fs) which name limit bytes short told = ap (file_at which limit) told.0 ∙ file_at-within which limit bytes.items told.1
+-- an account of what the host tells, or of a file like this where it tells none
+abbrev finds : Option Files → Option (List ℕ) → Source
+finds None file which name = gave file
+finds (Some fs) file which name = gave (held fs name)
 
-pub for_absent : (files : Option Files) (which : Input) (name : List ℕ) (limit : ℕ) → IfSome files (λ fs. IsFetch (held fs name) limit fetch.Absent) → ForFiles files (λ source. IsRead bytes_of (Err (stop.Absent which)) (file_at which limit (source which name)))
-for_absent None which name limit told = (λ n name. None, refl)
-for_absent (Some fs) which name limit told = ap (file_at which limit) told
+-- what is given is no failure
+gave-not-failed : (file : Option (List ℕ)) → gave file ≢ failed
+gave-not-failed file is = absurd cc
 
-pub for_long : (files : Option Files) (which : Input) (name : List ℕ) (limit : ℕ) → IfSome files (λ fs. IsFetch (held fs name) limit fetch.TooLong) → ForFiles files (λ source. IsRead bytes_of (Err (stop.TooLong which)) (file_at which limit (source which name)))
-for_long None which name limit told = let b = longer limit in (λ n name. Some b.0, file_at-longer which limit b.0 b.1)
-for_long (Some fs) which name limit told = let b = long_at limit (held fs name) told in ap (file_at which limit) b.1 ∙ file_at-longer which limit b.0 b.2
+finds-account : (files : Option Files) (file : Option (List ℕ)) (Fault : Type 0) → IsAccount files Fault (finds files file)
+finds-account None file Fault = record { blamed = λ which name is. absurd (gave-not-failed file is); told = tt }
+finds-account (Some fs) file Fault = record { blamed = λ which name is. absurd (gave-not-failed (held fs name) is); told = λ which name. inr refl }
 
--- a clause that holds of any files
-pub for_any : (files : Option Files) (P : Source → Type 0) → ((source : Source) → P source) → ForFiles files P
-for_any None P h = (λ n name. None, h (λ n name. None))
-for_any (Some fs) P h = h (λ n name. held fs name)
+fails-account : (files : Option Files) (Fault : Type 0) → Fault → IsAccount files Fault (λ which name. failed)
+fails-account None Fault fault = record { blamed = λ which name is. fault; told = tt }
+fails-account (Some fs) Fault fault = record { blamed = λ which name is. fault; told = λ which name. inl refl }
 
-pub for_each : (files : Option Files) (P Q : Source → Type 0) → ((source : Source) → P source → Q source) → ForFiles files P → ForFiles files Q
-for_each None P Q step h = (h.0, step h.0 h.1)
-for_each (Some fs) P Q step h = step (λ n name. held fs name) h
+pub for_bytes : (files : Option Files) (Fault : Type 0) (which : Input) (name : List ℕ) (limit : ℕ) (bytes : Vec ℕ) → length bytes.items ≤ limit → IfSome files (λ fs. IsFetch (held fs name) limit (fetch.Bytes bytes)) → ForAccount files Fault (λ source. IsRead bytes_of (Ok bytes) (file_at which limit (source which name)))
+for_bytes None Fault which name limit bytes short told = (finds None (Some bytes.items), finds-account None (Some bytes.items) Fault, file_at-within which limit bytes.items short)
+for_bytes (Some fs) Fault which name limit bytes short told = (finds (Some fs) None, finds-account (Some fs) None Fault, ap (λ (file : Option (List ℕ)). file_at which limit (gave file)) told.0 ∙ file_at-within which limit bytes.items told.1)
 
--- what holds whichever files it is
-pub from_files : (files : Option Files) (P : Source → Type 0) (X : Type 0) → ((source : Source) → P source → X) → ForFiles files P → X
-from_files None P X step h = step h.0 h.1
-from_files (Some fs) P X step h = step (λ n name. held fs name) h
+pub for_absent : (files : Option Files) (Fault : Type 0) (which : Input) (name : List ℕ) (limit : ℕ) → IfSome files (λ fs. IsFetch (held fs name) limit fetch.Absent) → ForAccount files Fault (λ source. IsRead bytes_of (Err (stop.Absent which)) (file_at which limit (source which name)))
+for_absent None Fault which name limit told = (finds None None, finds-account None None Fault, refl)
+for_absent (Some fs) Fault which name limit told = (finds (Some fs) None, finds-account (Some fs) None Fault, ap (λ (file : Option (List ℕ)). file_at which limit (gave file)) told)
+
+pub for_long : (files : Option Files) (Fault : Type 0) (which : Input) (name : List ℕ) (limit : ℕ) → IfSome files (λ fs. IsFetch (held fs name) limit fetch.TooLong) → ForAccount files Fault (λ source. IsRead bytes_of (Err (stop.TooLong which)) (file_at which limit (source which name)))
+for_long None Fault which name limit told = let b = longer limit in (finds None (Some b.0), finds-account None (Some b.0) Fault, file_at-longer which limit b.0 b.1)
+for_long (Some fs) Fault which name limit told = let b = long_at limit (held fs name) told in (finds (Some fs) None, finds-account (Some fs) None Fault, ap (λ (file : Option (List ℕ)). file_at which limit (gave file)) b.1 ∙ file_at-longer which limit b.0 b.2)
+
+pub for_failed : (files : Option Files) (Fault : Type 0) (which : Input) (name : List ℕ) (limit : ℕ) → Fault → ForAccount files Fault (λ source. IsRead bytes_of (Err (stop.ReadFailed which)) (file_at which limit (source which name)))
+for_failed files Fault which name limit fault = (λ which name. failed, fails-account files Fault fault, refl)
+
+-- a clause that holds of any account
+pub for_any : (files : Option Files) (Fault : Type 0) (P : Source → Type 0) → ((source : Source) → P source) → ForAccount files Fault P
+for_any files Fault P h = (finds files None, finds-account files None Fault, h (finds files None))
+
+-- what is blamed on one fault may be blamed on another that comes with it
+later_fault : (files : Option Files) (F G : Type 0) (source : Source) → (F → G) → IsAccount files F source → IsAccount files G source
+later_fault files F G source step a = record { blamed = λ which name is. step (a.blamed which name is); told = a.told }
+
+pub for_each : (files : Option Files) (F G : Type 0) (P Q : Source → Type 0) → (F → G) → ((source : Source) → P source → Q source) → ForAccount files F P → ForAccount files G Q
+for_each files F G P Q fault step h = (h.0, later_fault files F G h.0 fault h.1, step h.0 h.2)
+
+-- what holds whichever account it is
+pub from_account : (files : Option Files) (Fault : Type 0) (P : Source → Type 0) (X : Type 0) → ((source : Source) → P source → X) → ForAccount files Fault P → X
+from_account files Fault P X step h = step h.0 h.2
 
 -- what holds of one read, and what holds of the other, hold of both
 abbrev joined : Held → Held → Source
 joined first second input.Settings = first
 joined first second input.File = second
 
-pub for_both : (files : Option Files) (P Q : Held → Type 0) (R : Source → Type 0) → ((source : Source) → P (source input.Settings) → Q (source input.File) → R source) → ForFiles files (λ source. P (source input.Settings)) → ForFiles files (λ source. Q (source input.File)) → ForFiles files R
-for_both None P Q R step p q = (joined (p.0 input.Settings) (q.0 input.File), step (joined (p.0 input.Settings) (q.0 input.File)) p.1 q.1)
-for_both (Some fs) P Q R step p q = step (λ n name. held fs name) p q
+joined_blamed : (files : Option Files) (F G K : Type 0) (p q : Source) → (F → K) → (G → K) → IsAccount files F p → IsAccount files G q → (which : Input) (name : List ℕ) → joined (p input.Settings) (q input.File) which name ≡ failed → K
+joined_blamed files F G K p q f g a b input.Settings name is = f (a.blamed input.Settings name is)
+joined_blamed files F G K p q f g a b input.File name is = g (b.blamed input.File name is)
+
+joined_told : (fs : Files) (F G : Type 0) (p q : Source) → IsAccount (Some fs) F p → IsAccount (Some fs) G q → (which : Input) (name : List ℕ) → (joined (p input.Settings) (q input.File) which name ≡ failed) ⊎ (joined (p input.Settings) (q input.File) which name ≡ gave (held fs name))
+joined_told fs F G p q a b input.Settings name = a.told input.Settings name
+joined_told fs F G p q a b input.File name = b.told input.File name
+
+joined_account : (files : Option Files) (F G K : Type 0) (p q : Source) → (F → K) → (G → K) → IsAccount files F p → IsAccount files G q → IsAccount files K (joined (p input.Settings) (q input.File))
+joined_account None F G K p q f g a b = record { blamed = joined_blamed None F G K p q f g a b; told = tt }
+joined_account (Some fs) F G K p q f g a b = record { blamed = joined_blamed (Some fs) F G K p q f g a b; told = joined_told fs F G p q a b }
+
+pub for_both : (files : Option Files) (F G K : Type 0) (P Q : Held → Type 0) (R : Source → Type 0) → (F → K) → (G → K) → ((source : Source) → P (source input.Settings) → Q (source input.File) → R source)
+    → ForAccount files F (λ source. P (source input.Settings)) → ForAccount files G (λ source. Q (source input.File)) → ForAccount files K R
+for_both files F G K P Q R f g step p q = (joined (p.0 input.Settings) (q.0 input.File), joined_account files F G K p.0 q.0 f g p.1 q.1, step (joined (p.0 input.Settings) (q.0 input.File)) p.2 q.2)
 
 -- ---- what stands behind a file that was read
 
@@ -85,7 +118,7 @@ captures_in-bad bytes at why is = rw is refl
 -- what was not read stops what stands behind it
 pub IsRead-stopped : {X Y Z W : Type 0} (view : X → Y) (seen : Z → W) (read : Result Y Stop) (then : Y → Result W Stop) (why : Stop) → IsRead view (Err why) read → IsRead seen (Err why) (read >>= then)
 IsRead-stopped view seen read then (stop.Words f) is = absurd is
-IsRead-stopped view seen read then (stop.ReadFailed which) is = tt
+IsRead-stopped {X} {Y} view seen read then (stop.ReadFailed which) is = ap (λ (r : Result Y Stop). r >>= then) is
 IsRead-stopped view seen read then stop.Memory is = tt
 IsRead-stopped {X} {Y} view seen read then (stop.Absent which) is = ap (λ (r : Result Y Stop). r >>= then) is
 IsRead-stopped {X} {Y} view seen read then (stop.TooLong which) is = ap (λ (r : Result Y Stop). r >>= then) is

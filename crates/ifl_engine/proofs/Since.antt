@@ -6,11 +6,15 @@ use Rattle.ifl_engine.specs.declared.report.Report.{Report}
 use Rattle.ifl_engine.specs.declared.report.Finished.{Finished}
 use Rattle.ifl_engine.specs.declared.stop.Stop.{Stop}
 use Rattle.ifl_engine.specs.Words.{Named, send, trace}
-use Rattle.ifl_engine.specs.Wanted.{Source, Load, Work, sending, tracing, file_at, read_of, work_of, names_asked}
+use Rattle.ifl_engine.specs.Account.{Source}
+use Rattle.ifl_engine.specs.Loading.{Load, file_at, read_of}
+use Rattle.ifl_engine.specs.Wanted.{Work, sending, tracing, work_of}
+use Rattle.ifl_engine.specs.FaultLines.{names_asked}
 use Rattle.ifl_engine.specs.Seen.{Seen}
 use Rattle.ifl_engine.specs.Answer.{IsDone, Tells, IsReplayed, IsAnswer}
 use Rattle.ifl_engine.proofs.CutShort.{moved}
-use Rattle.ifl_engine.proofs.Stopping.{as_work, as_replay, risen_late}
+use Rattle.ifl_engine.proofs.Risen.{risen_late}
+use Rattle.ifl_engine.proofs.Stopping.{as_work, as_replay}
 
 done_since : (names : Named) (before mid after : Seen) (o : Option Report) → mid.files ≡ before.files → mid.printed ≡ before.printed → IfSome o (λ r. IsDone names r mid after) → IfSome o (λ r. IsDone names r before after)
 done_since names before mid after None files printed h = tt

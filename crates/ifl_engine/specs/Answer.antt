@@ -1,26 +1,22 @@
 -- What a run answers, and what it does to its host.
 use Rattle.std.specs.Prelude.{◌≡◌, ◌≢◌, ◌≤◌, ◌⊎◌, ℕ, List, ◌++◌, take, Option, Some, None, Result, Ok, Err, IfSome, IsSome, IsNone}
-use Rattle.ifl_outside.specs.Files.{Files, held}
 use Rattle.ifl_outside.specs.Told.{BothTold}
 use Rattle.ifl_outside.specs.Causes.{Rose}
 use Rattle.ifl_pcap.specs.declared.frame.Frame.{Frame}
 use Rattle.ifl_engine.specs.declared.report.Report.{Report}
 use Rattle.ifl_engine.specs.declared.report.Finished.{Finished}
 use Rattle.ifl_engine.specs.declared.stop.Stop.{Stop}
-use Rattle.ifl_conf.specs.declared.word_fault.WordFault.{WordFault}
+use Rattle.ifl_engine.specs.declared.stop.WordsWhy.{WordsWhy}
 use Rattle.ifl_engine.specs.Words.{Named, Asked}
 use Rattle.ifl_engine.specs.Report.{IsGood}
 use Rattle.ifl_engine.specs.Left.{IsWritten, IsStanding}
 use Rattle.ifl_engine.specs.Seen.{Seen}
-use Rattle.ifl_engine.specs.CutShort.{IsCutShort}
+use Rattle.ifl_engine.specs.CutShort.{HasOutput, IsCutShort}
 use Rattle.ifl_engine.specs.Texts.{counter_text_of}
 use Rattle.ifl_engine.specs.Tracing.{IsReplay}
-use Rattle.ifl_engine.specs.Wanted.{Source, Work, sending, tracing, status_of, line_of}
-
--- for the files that the host tells, or for some where it does not tell them
-abbrev pub ForFiles : Option Files → (Source → Type 0) → Type 0
-ForFiles None P = (source : Source) × P source
-ForFiles (Some files) P = P (λ which name. held files name)
+use Rattle.ifl_engine.specs.Wanted.{Work, sending, tracing}
+use Rattle.ifl_engine.specs.Status.{status_of}
+use Rattle.ifl_engine.specs.FaultLines.{line_of}
 
 -- where frames are to be sent, P of the most bytes of a frame and of their captures; and they are
 abbrev pub IfSending : Result Work Stop → (ℕ → List (List Frame) → Type 0) → Type 0
@@ -40,16 +36,18 @@ CallsFor (Ok (sending names max_frame captures)) status = status ≡ 0
 CallsFor (Ok (tracing schedule)) status = (text : List ℕ) × IsReplay schedule text status
 CallsFor (Err why) status = status ≡ status_of why
 
--- the status that is called for, unless a call of the host failed or memory ran out
+-- the status that is called for, unless memory ran out or an output of the run failed
 abbrev pub IsStatus : Result Work Stop → ℕ → Type 0
-IsStatus work status = CallsFor work status ⊎ ((status ≡ 5) ⊎ (status ≡ 6))
+IsStatus work status = CallsFor work status ⊎ ((status ≡ 6) ⊎ ((status ≡ 5) × HasOutput work))
 
--- the status that is called for, where no call of the host failed, unless memory ran out
-abbrev pub IsCalledFor : Result Work Stop → ℕ → Type 0
-IsCalledFor work status = CallsFor work status ⊎ (status ≡ 6)
+-- a refusal: the words, the files or the schedule are at fault, and neither the host nor memory
+pub record IsRefusal (status : ℕ) : Type 0 where
+  pub no_success : status ≢ 0
+  pub no_failure : status ≢ 5
+  pub no_want : status ≢ 6
 
 -- words that are refused have status 1, and no others do
-abbrev pub IsByWords : Result Asked WordFault → ℕ → Type 0
+abbrev pub IsByWords : Result Asked WordsWhy → ℕ → Type 0
 IsByWords (Ok command) status = status ≢ 1
 IsByWords (Err e) status = (status ≡ 1) ⊎ (status ≡ 6)
 

@@ -1,5 +1,5 @@
 -- A run that was cut short: what stopped it, and what was printed by then.
-use Rattle.std.specs.Prelude.{◌≡◌, ◌≢◌, ◌+◌, ◌-◌, ◌^◌, ◌≤◌, ◌⊎◌, ℕ, min, List, [], ◌++◌, take, Option, Some, None, Result, Ok, Err, IfSome, IsSomeAnd}
+use Rattle.std.specs.Prelude.{◌≡◌, ◌≢◌, ◌+◌, ◌-◌, ◌^◌, ◌≤◌, ◌⊎◌, ℕ, min, List, [], ◌++◌, take, Option, Some, None, Result, Ok, Err, IfSome, IsSome, IsSomeAnd}
 use Rattle.ifl_outside.specs.Told.{BothTold}
 use Rattle.ifl_engine.specs.declared.report.Report.{Report}
 use Rattle.ifl_engine.specs.declared.report.Finished.{Finished}
@@ -9,8 +9,10 @@ use Rattle.ifl_engine.specs.Words.{Named}
 use Rattle.ifl_engine.specs.Seen.{Seen}
 use Rattle.ifl_engine.specs.Left.{IsLeft}
 use Rattle.ifl_engine.specs.Texts.{counter_text_of}
-use Rattle.ifl_engine.specs.Tracing.{IsReplay}
-use Rattle.ifl_engine.specs.Wanted.{Work, sending, tracing, status_of, line_of}
+use Rattle.ifl_engine.specs.Tracing.{IsReplay, IsLegalSchedule}
+use Rattle.ifl_engine.specs.Wanted.{Work, sending, tracing}
+use Rattle.ifl_engine.specs.Status.{status_of}
+use Rattle.ifl_engine.specs.FaultLines.{line_of}
 
 -- the count of faults has risen twice, or stands at the end of its type
 abbrev pub RoseTwice : ℕ → ℕ → Type 0
@@ -22,18 +24,29 @@ IsEnding (Ok (sending names max_frame captures)) report text = IsSomeAnd report 
 IsEnding (Ok (tracing schedule)) report text = (status : ℕ) × IsReplay schedule text status
 IsEnding (Err why) report text = ⊥
 
-abbrev pub IsReplaying : Result Work Stop → Type 0
-IsReplaying (Ok (sending names max_frame captures)) = ⊥
-IsReplaying (Ok (tracing schedule)) = Unit {0}
-IsReplaying (Err why) = ⊥
+-- what a run puts out at its end can fail: the files and counters of frames that were sent, and the print of a replay
+-- whose every event is legal; a bad schedule keeps its own status
+abbrev pub HasOutput : Result Work Stop → Type 0
+HasOutput (Ok (sending names max_frame captures)) = Unit {0}
+HasOutput (Ok (tracing schedule)) = IsLegalSchedule schedule
+HasOutput (Err why) = ⊥
 
--- without a report nothing was written, and only a replay was printed
+-- a write or a print failed
+abbrev pub IsOfOutput : Stop → Type 0
+IsOfOutput stop.WireFailed = Unit {0}
+IsOfOutput stop.OrderFailed = Unit {0}
+IsOfOutput stop.PrintFailed = Unit {0}
+IsOfOutput e = ⊥
+
+-- an output of the run failed: without a report nothing was written, and only a replay was printed
+abbrev pub IsOutputStop : Result Work Stop → Option Report → Stop → Type 0
+IsOutputStop (Ok (sending names max_frame captures)) report why = IsSome report × IsOfOutput why
+IsOutputStop (Ok (tracing schedule)) report why = IsLegalSchedule schedule × (why ≡ stop.PrintFailed)
+IsOutputStop (Err e) report why = ⊥
+
+-- what stopped the run: what is called for, or want of memory, or an output of its own
 abbrev pub IsStopOf : Result Work Stop → Option Report → Stop → Type 0
-IsStopOf work (Some r) why = Unit {0}
-IsStopOf work None stop.WireFailed = ⊥
-IsStopOf work None stop.OrderFailed = ⊥
-IsStopOf work None stop.PrintFailed = IsReplaying work
-IsStopOf work None e = Unit {0}
+IsStopOf work report why = (work ≡ Err why) ⊎ ((why ≡ stop.Memory) ⊎ IsOutputStop work report why)
 
 -- a stop that a print may give
 abbrev pub IsOfPrint : Stop → Type 0
@@ -57,8 +70,6 @@ pub record IsCutShort (names : Named) (work : Result Work Stop) (before after : 
   pub why : Stop
   pub status : (result.status ≡ status_of why) ⊎ (result.status ≡ 6)
   pub here : IsStopOf work result.report why
-  -- it is what the words and the files call for, unless the host failed or memory ran out
-  pub called : status_of why ≢ 5 → status_of why ≢ 6 → work ≡ Err why
   -- what stands in the files is what that stop leaves
   pub left : IfSome result.report (λ r. BothTold before.files after.files (IsLeft names r why))
   -- where the host failed once only, the fault line was printed whole

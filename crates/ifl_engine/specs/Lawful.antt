@@ -1,5 +1,5 @@
 -- A lawful order record: which frames its lines name, and in which order.
-use Rattle.std.specs.Prelude.{◌≡◌, ◌<◌, ◌⊎◌, ℕ, List, ◌++◌, map, Some, All, AllPairs}
+use Rattle.std.specs.Prelude.{◌≡◌, ◌<◌, ◌⊎◌, ℕ, List, ◌++◌, map, Option, Some, None, All, AllPairs}
 use Rattle.std.specs.List.Sorted.{IsPermutation}
 use Rattle.ifl_base.specs.declared.fate.Away.{Away}
 use Rattle.ifl_base.specs.declared.fate.Away.TheVariants as away
@@ -17,10 +17,12 @@ IsInFileOrder a b = a.ticket.sender ≡ b.ticket.sender → a.ticket.index < b.t
 abbrev pub IsBefore : AwayLine → AwayLine → Type 0
 IsBefore a b = (a.ticket.sender < b.ticket.sender) ⊎ ((a.ticket.sender ≡ b.ticket.sender) × (a.ticket.index < b.ticket.index))
 
--- the verdict on a frame that was turned away so
-abbrev pub verdict_for : Away → Judged
-verdict_for away.Runt = judged.Runt
-verdict_for away.Oversize = judged.Oversize
+-- the verdict on a frame that was turned away so, where a verdict is why
+abbrev pub verdict_for : Away → Option Judged
+verdict_for away.Runt = Some judged.Runt
+verdict_for away.Oversize = Some judged.Oversize
+verdict_for away.NoClusters = None
+verdict_for (away.NoBuffers w) = None
 
 pub record IsLawful (max_frame : ℕ) (captures : List (List Frame)) (order : List OrderLine) (turned : List AwayLine) : Type 0 where
   -- every record stands in exactly one line of the two lists, and no line names another
@@ -31,5 +33,5 @@ pub record IsLawful (max_frame : ℕ) (captures : List (List Frame)) (order : Li
   pub away_in_order : AllPairs IsBefore turned
   -- accepted frames are fit
   pub fit : All (λ l. verdict_at max_frame captures l.ticket ≡ Some judged.Fit) order
-  -- the others are what their line says
-  pub turned_away : All (λ l. verdict_at max_frame captures l.ticket ≡ Some (verdict_for l.away)) turned
+  -- the others have a verdict, which is what their line says
+  pub turned_away : All (λ l. verdict_at max_frame captures l.ticket ≡ verdict_for l.away) turned

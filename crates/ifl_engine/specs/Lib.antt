@@ -5,7 +5,11 @@ pub mod Lawful
 pub mod Report
 pub mod Texts
 pub mod Tracing
+pub mod Account
+pub mod Loading
 pub mod Wanted
+pub mod Status
+pub mod FaultLines
 pub mod Seen
 pub mod Left
 pub mod CutShort

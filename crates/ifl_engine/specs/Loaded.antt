@@ -2,7 +2,7 @@
 use Rattle.std.specs.Prelude.{[], ◌∷◌, option_map}
 use Rattle.ifl_engine.specs.declared.reading.Files.{Files}
 use Rattle.ifl_engine.specs.declared.reading.Load.{Load}
-use Rattle.ifl_engine.specs.Wanted.{Bytes, Load as Loaded}
+use Rattle.ifl_engine.specs.Loading.{Bytes, Load as Loaded}
 
 -- their bytes
 abbrev pub bytes_seen : Files → Bytes

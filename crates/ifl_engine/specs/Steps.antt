@@ -7,12 +7,11 @@ use Rattle.ifl_outside.specs.declared.fault.HostError.{HostError}
 use Rattle.ifl_outside.specs.declared.fault.HostError.TheVariants as host
 use Rattle.ifl_pcap.specs.declared.frame.Frame.{Frame}
 use Rattle.ifl_pcap.specs.File.{Fits}
-use Rattle.ifl_conf.specs.declared.setting_fault.SettingFault.{SettingFault}
-use Rattle.ifl_conf.specs.declared.setting_fault.SettingFault.TheVariants as setting
 use Rattle.ifl_engine.specs.declared.stop.Stop.{Stop}
 use Rattle.ifl_engine.specs.declared.stop.Stop.TheVariants as stop
 use Rattle.ifl_engine.specs.Words.{Named}
-use Rattle.ifl_engine.specs.Wanted.{status_of, line_of}
+use Rattle.ifl_engine.specs.Status.{status_of}
+use Rattle.ifl_engine.specs.FaultLines.{line_of}
 use Rattle.ifl_engine.specs.Seen.{Seen}
 
 -- what a capture of a file within the limit has
@@ -20,11 +19,11 @@ pub record IsSmall (frames : List Frame) : Type 0 where
   pub fit : AllByRecursion Fits frames
   pub few : 16 * length frames ≤ 67108864
 
--- what was read, seen by view, is what is to be read, or it stops for the same cause; the host and memory may fail at any time
+-- what was read, seen by view, is what is to be read, or it stops for the same cause; memory may run out at any time
 abbrev pub IsRead : {X Y : Type 0} → (X → Y) → Result X Stop → Result Y Stop → Type 0
 IsRead view (Ok x) read = read ≡ Ok (view x)
-IsRead view (Err (stop.ReadFailed which)) read = Unit {0}
 IsRead view (Err stop.Memory) read = Unit {0}
+IsRead view (Err (stop.ReadFailed which)) read = read ≡ Err (stop.ReadFailed which)
 IsRead view (Err (stop.Absent which)) read = read ≡ Err (stop.Absent which)
 IsRead view (Err (stop.TooLong which)) read = read ≡ Err (stop.TooLong which)
 IsRead view (Err (stop.Settings e)) read = read ≡ Err (stop.Settings e)
@@ -40,13 +39,6 @@ IsReadFailure e = ⊥
 abbrev pub IsReadFailed : {X : Type 0} → Result X Stop → Type 0
 IsReadFailed (Ok x) = ⊥
 IsReadFailed (Err why) = IsReadFailure why
-
--- the stop for a settings file that is refused, or for which there was no memory
-abbrev pub stop_by_settings : SettingFault → Stop
-stop_by_settings setting.Text = stop.Settings setting.Text
-stop_by_settings setting.Unknown = stop.Settings setting.Unknown
-stop_by_settings (setting.Key k) = stop.Settings (setting.Key k)
-stop_by_settings setting.Memory = stop.Memory
 
 -- the stop for a call of the host that did not succeed
 abbrev pub stop_by : HostError → Stop → Stop

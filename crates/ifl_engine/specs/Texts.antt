@@ -5,20 +5,39 @@ use Rattle.ifl_base.specs.declared.fate.Fate.{Fate}
 use Rattle.ifl_base.specs.declared.fate.Fate.TheVariants as fate
 use Rattle.ifl_base.specs.declared.fate.Away.{Away}
 use Rattle.ifl_base.specs.declared.fate.Away.TheVariants as away
+use Rattle.ifl_base.specs.declared.word.RingWord.{RingWord}
+use Rattle.ifl_base.specs.Word.{name_of}
 use Rattle.ifl_engine.specs.declared.report.OrderLine.{OrderLine}
 use Rattle.ifl_engine.specs.declared.report.AwayLine.{AwayLine}
 use Rattle.ifl_engine.specs.declared.report.Plain.{Plain}
 
 abbrev pub fate_name : Fate → List ℕ
 fate_name fate.Wire = codes "wire"
+fate_name fate.TooManySegments = codes "too_many_segments"
+fate_name fate.Reset = codes "reset"
+fate_name fate.Flush = codes "flush"
+
+-- a space and a number
+abbrev pub field : ℕ → List ℕ
+field n = codes " " ++ decimal n
+
+-- a word that was seen: its places and its flag, each behind a space
+abbrev pub word_text : RingWord → List ℕ
+word_text w = field w.head ++ (field w.tail ++ (field w.cidx ++ (codes " " ++ name_of w.flag)))
 
 abbrev pub away_name : Away → List ℕ
 away_name away.Runt = codes "runt"
 away_name away.Oversize = codes "oversize"
+away_name away.NoClusters = codes "no_clusters"
+away_name (away.NoBuffers w) = codes "no_buffers" ++ word_text w
 
 -- a sender, a record and a word, with single spaces between
 unfoldable pub text_line : ℕ → ℕ → List ℕ → List ℕ
 text_line s k text = decimal s ++ (codes " " ++ (decimal k ++ (codes " " ++ (text ++ codes "\n"))))
+
+-- the same, before its line feed
+abbrev pub open_line : ℕ → ℕ → List ℕ → List ℕ
+open_line s k text = decimal s ++ (codes " " ++ (decimal k ++ (codes " " ++ text)))
 
 -- a name, a space and a number
 unfoldable pub count_line : List ℕ → ℕ → List ℕ

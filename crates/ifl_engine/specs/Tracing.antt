@@ -22,3 +22,7 @@ pub record IsBadSchedule (file text : List ℕ) (status : ℕ) : Type 0 where
 -- what a replay of the file prints, and its status
 abbrev pub IsReplay : List ℕ → List ℕ → ℕ → Type 0
 IsReplay file text status = IsTraced file text status ⊎ IsBadSchedule file text status
+
+-- the file is a schedule whose every event is legal
+abbrev pub IsLegalSchedule : List ℕ → Type 0
+IsLegalSchedule file = (text : List ℕ) × IsReplay file text 0

@@ -1,8 +1,12 @@
 -- What the words of the command line ask the engine for: to send a capture's frames, or to replay a schedule.
 use Rattle.std.specs.Prelude.{ℕ, List, [], ◌∷◌, Option, None, Some, option_and_then, Result, Ok, Err, if◌then◌else◌, codes}
 use Rattle.std.specs.Str.{bytes_eq}
+use Rattle.ifl_engine.specs.declared.stop.WordsWhy.{WordsWhy}
+use Rattle.ifl_engine.specs.declared.stop.WordsWhy.TheVariants.{NoCommand, UnknownCommand, Refused, Names}
+use Rattle.ifl_engine.specs.declared.stop.Stop.{Stop}
+use Rattle.ifl_engine.specs.declared.stop.Stop.TheVariants as stop
 use Rattle.ifl_conf.specs.declared.word_fault.WordFault.{WordFault}
-use Rattle.ifl_conf.specs.declared.word_fault.WordFault.TheVariants.{NoCommand, UnknownCommand, Refused, Names}
+use Rattle.ifl_conf.specs.declared.word_fault.WordFault.TheVariants as fault
 use Rattle.ifl_conf.specs.Options.{command_text, option_named}
 use Rattle.ifl_conf.specs.Front.{Given}
 use Rattle.ifl_conf.specs.Grammar.{value_of}
@@ -44,18 +48,26 @@ named gs fs = record {
 }
 
 -- what the command that is written so asks for with these options and FILE words
-abbrev pub asked_by : List ℕ → List Given → List (List ℕ) → Result Asked WordFault
+abbrev pub asked_by : List ℕ → List Given → List (List ℕ) → Result Asked WordsWhy
 asked_by text gs fs =
     if bytes_eq text (codes "send") then Ok (send (named gs fs)) else if bytes_eq text (codes "trace") then Ok (trace (first_name fs)) else Err Refused
 
--- what words that are read so ask for, or their first fault
-abbrev pub asked_of : Reading → Result Asked WordFault
+-- what words that are read so ask for, or why they are refused
+abbrev pub asked_of : Reading → Result Asked WordsWhy
 asked_of no_command = Err NoCommand
 asked_of unknown_command = Err UnknownCommand
 asked_of refused = Err Refused
 asked_of names = Err Names
 asked_of (asks c gs fs) = asked_by (command_text c) gs fs
 
--- what all words ask for, or their first fault
-unfoldable pub asked : List (List ℕ) → Result Asked WordFault
+-- what all words ask for, or why they are refused
+unfoldable pub asked : List (List ℕ) → Result Asked WordsWhy
 asked words = asked_of (reading words)
+
+-- the stop for words that are refused, or for which there was no memory
+abbrev pub stop_by_words : WordFault → Stop
+stop_by_words fault.NoCommand = stop.Words NoCommand
+stop_by_words fault.UnknownCommand = stop.Words UnknownCommand
+stop_by_words fault.Refused = stop.Words Refused
+stop_by_words fault.Names = stop.Words Names
+stop_by_words fault.Memory = stop.Memory

@@ -7,11 +7,13 @@
 //! are accepted goes by the largest frame of the settings.
 //!
 //! `specs/` reads in this order: `Words` (what was asked), `Records` (tickets), `Lawful` and `Report` (what a
-//! good report is), `Texts`, `Tracing` (what a replay prints), `Wanted` (what a run is to do, or the first thing
-//! that stops it), `Answer` (what it answers and does to its host). `Read`, `Loaded`, `PlainList` and `Steps` are for
-//! the functions below `run`.
+//! good report is), `Texts`, `Tracing` (what a replay prints), `Account` (what the files were found to be), `Loading`
+//! (what `send` goes by), `Wanted` (what a run is to do, or the first thing that stops it), `Status` and `FaultLines`
+//! (of each stop), `Seen`, `Left`, `CutShort` and `Answer` (what a run answers and does to its host). `Read`, `Loaded`,
+//! `PlainList` and `Steps` are for the functions below `run`.
 #![tactic(auto)]
 
+mod laws;
 mod plain;
 mod reading;
 mod report;
@@ -23,8 +25,12 @@ mod tracing;
 mod words;
 mod writing;
 
+pub use laws::{
+    accounts_are_what_is_told, bad_schedules_keep_their_status, runs_complete,
+    stops_leave_no_report,
+};
 pub use report::{AwayLine, Finished, OrderLine, Plain, Report};
-pub use stop::{Input, Stop};
+pub use stop::{Input, SettingsWhy, Stop, WordsWhy};
 pub use texts::{counter_text, order_text};
 pub use top::run;
 pub use tracing::run_trace;

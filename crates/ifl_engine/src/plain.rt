@@ -1,6 +1,6 @@
 ghost use Rattle.std.specs.Prelude.{◌≡◌, ◌<◌, ◌+◌, ◌^◌, ◌++◌, ◌∷◌, [], length, filter, count_by, sum_by, OnOk, IfOk};
 ghost use Rattle.std.specs.List.{AllByRecursion};
-ghost use Rattle.ifl_pcap.specs.File.{Fits, written};
+ghost use Rattle.ifl_pcap.specs.File.{IsShort, written};
 ghost use Rattle.ifl_engine.specs.PlainList.{judged_of, is_fit, order_part, away_part, order_of, away_of};
 ghost use Rattle.ifl_engine.specs.Report.{IsGood, is_runt, is_oversize};
 ghost use Rattle.ifl_engine.specs.Steps.{IsSmall};
@@ -11,11 +11,11 @@ use ifl_pcap::{Capture, Frame, write_capture};
 use std::alloc::Global;
 
 /// The verdict on a frame.
-fn judged(max_frame: u32, frame: &Frame) -> Judged
+fn judged(max_frame: u32, frame: &Frame<'_>) -> Judged
     requires { length frame.now.bytes < 2 ^ 32 }
     ensures { result ≡ judged_of max_frame frame.now }
 {
-    verdict(frame.bytes.len() as u32, max_frame)
+    verdict(frame.len() as u32, max_frame)
 }
 
 /// Puts a record's line where it belongs.
@@ -25,7 +25,7 @@ fn put_line(
     away: &mut Items<AwayLine>,
     max_frame: u32,
     index: u32,
-    frame: &Frame,
+    frame: &Frame<'_>,
 ) -> Result<(), NoMemory>
     requires { length frame.now.bytes < 2 ^ 32 }
     ensures order { OnOk result (order.new ≡ order.old ++ order_part max_frame (index, frame.now)) }
@@ -48,43 +48,51 @@ fn put_line(
     }
 }
 
-/// The lines of all records, in order.
+/// How many frames may be sent.
+fn fit_count(max_frame: u32, capture: &Capture) -> usize {
+    let mut count = 0usize;
+    for k in 0..capture.len() {
+        if is_fit(max_frame, &capture.frame(k)) {
+            count = count.saturating_add(1);
+        }
+    }
+    count
+}
+
+/// The lines of all records, in order, each list in room that is taken once.
 fn lines_of(
     alloc: Global,
     max_frame: u32,
-    frames: &[Frame],
+    capture: &Capture,
 ) -> Result<(Items<OrderLine>, Items<AwayLine>), NoMemory>
-    requires { IsSmall frames.now }
-    ensures { IfOk result (λ p. (p.0 ≡ order_of max_frame frames.now) × (p.1 ≡ away_of max_frame frames.now)) }
+    requires { IsSmall capture.now.frames }
+    ensures { IfOk result (λ p. (p.0 ≡ order_of max_frame capture.now.frames) × (p.1 ≡ away_of max_frame capture.now.frames)) }
 {
-    let mut order = Items::with_capacity(alloc, frames.len())?;
-    let mut away = Items::new(alloc);
-    for (k, frame) in frames.iter().enumerate() {
-        put_line(&mut order, &mut away, max_frame, k as u32, frame)?;
+    let fit = fit_count(max_frame, capture);
+    let mut order = Items::with_capacity(alloc, fit)?;
+    let mut away = Items::with_capacity(alloc, capture.len().saturating_sub(fit))?;
+    for k in 0..capture.len() {
+        let frame = capture.frame(k);
+        put_line(&mut order, &mut away, max_frame, k as u32, &frame)?;
     }
     Ok((order, away))
 }
 
 /// Keeps the fit frames, in order.
-fn kept(max_frame: u32, frames: Vec<Frame>) -> Vec<Frame>
-    requires { AllByRecursion Fits frames.items }
-    ensures { result.items ≡ filter (is_fit max_frame) frames.items }
+fn kept(max_frame: u32, capture: Capture) -> Capture
+    ensures { result.frames ≡ filter (is_fit max_frame) capture.frames }
 {
-    let mut frames = frames;
-    frames.retain(
-        |f| -> bool
-            ensures { result ≡ is_fit max_frame f.now }
-        { is_fit(max_frame, f) },
-    );
-    frames
+    let mut capture = capture;
+    capture.keep_lengths(FRAME_MIN as usize, max_frame as usize);
+    capture
 }
 
 /// Whether a frame may be sent.
 #[tactic(auto, unfolding(crate::specs::PlainList::is_fit))]
-fn is_fit(max_frame: u32, frame: &Frame) -> bool
+fn is_fit(max_frame: u32, frame: &Frame<'_>) -> bool
     ensures { result ≡ is_fit max_frame frame.now }
 {
-    let len = frame.bytes.len();
+    let len = frame.len();
     FRAME_MIN as usize <= len && len <= max_frame as usize
 }
 
@@ -102,15 +110,12 @@ fn oversizes(away: &[AwayLine]) -> u64
         .count() as u64
 }
 
-/// The written capture of the frames, and the bytes of all frames in it.
-fn wire_of(alloc: Global, frames: Vec<Frame>) -> Result<(Vec<u8>, u64), NoMemory>
-    requires { AllByRecursion Fits frames.items }
-    ensures { IfOk result (λ p. (p.0.items ≡ written frames.items) × (p.1 ≡ sum_by (λ f. length f.bytes) frames.items)) }
+/// The written capture of the frames, and the bytes of all frames in it. The capture's own bytes are given up then.
+fn wire_of(alloc: Global, capture: Capture) -> Result<(Vec<u8>, u64), NoMemory>
+    requires { AllByRecursion IsShort capture.frames }
+    ensures { IfOk result (λ p. (p.0.items ≡ written capture.frames) × (p.1 ≡ sum_by (λ f. length f.bytes) capture.frames)) }
 {
-    let count = frames.len();
-    let capture = Capture {
-        frames: Items::from_vec(frames),
-    };
+    let count = capture.len();
     let wire = write_capture(alloc, &capture)?;
     let bytes = wire.len() - 24 - 16 * count;
     Ok((wire, bytes as u64))
@@ -122,10 +127,9 @@ pub fn report_of(alloc: Global, max_frame: u32, capture: Capture) -> Result<Repo
     requires { IsSmall capture.frames }
     ensures { IfOk result (λ r. IsGood max_frame (capture.frames ∷ []) r) }
 {
-    let Capture { frames } = capture;
-    let count = frames.len() as u64;
-    let (order, away) = lines_of(alloc, max_frame, frames.as_slice())?;
-    let (wire, wire_bytes) = wire_of(alloc, kept(max_frame, frames.into_vec()))?;
+    let count = capture.len() as u64;
+    let (order, away) = lines_of(alloc, max_frame, &capture)?;
+    let (wire, wire_bytes) = wire_of(alloc, kept(max_frame, capture))?;
     let plain = Plain {
         frames: count,
         wire: order.len() as u64,

@@ -1,16 +1,16 @@
 ghost use Rattle.std.specs.Prelude.{◌≡◌, ◌≤◌, ◌∷◌, [], length, option_map, IfOk};
 ghost use Rattle.ifl_outside.specs.Causes.{Rose};
 ghost use Rattle.ifl_engine.specs.Read.{names_of};
-ghost use Rattle.ifl_engine.specs.Wanted.{file_at, settings_file, bytes_read, max_frame_in, captures_in, load_in, read_of};
-ghost use Rattle.ifl_engine.specs.Answer.{ForFiles};
-ghost use Rattle.ifl_engine.specs.Steps.{IsSmall, IsRead, IsReadFailed, stop_by_settings};
+ghost use Rattle.ifl_engine.specs.Account.{ForAccount};
+ghost use Rattle.ifl_engine.specs.Loading.{file_at, settings_file, bytes_read, max_frame_in, captures_in, load_in, read_of};
+ghost use Rattle.ifl_engine.specs.Steps.{IsSmall, IsRead, IsReadFailed};
 ghost use Rattle.ifl_engine.specs.declared.stop.Input.TheVariants as input;
 ghost use Rattle.ifl_engine.specs.Loaded.{bytes_seen, load_seen};
 
-use crate::stop::{Input, Stop};
+use crate::stop::{Input, Stop, settings_stop};
 use crate::words::file_name;
 use ifl_base::FILE_MAX;
-use ifl_conf::{SendWords, SettingFault, Settings, read_settings};
+use ifl_conf::{SendWords, Settings, read_settings};
 use ifl_outside::{Fetch, Host, HostError};
 use ifl_pcap::{Capture, CaptureFault, read_capture};
 use std::alloc::Global;
@@ -44,7 +44,7 @@ pub fn read_file<H: Host>(
     limit: u64,
     host: &mut H,
 ) -> Result<Vec<u8>, Stop>
-    ensures read { ForFiles (H.files host.old) (λ source. IsRead (λ v. v.items) result (file_at which limit (source which name.now))) }
+    ensures read { ForAccount (H.files host.old) (Rose (H.faults host.old) (H.faults host.new)) (λ source. IsRead (λ v. v.items) result (file_at which limit (source which name.now))) }
     ensures within { IfOk result (λ v. length v.items ≤ limit) }
     ensures files { H.files host.new ≡ H.files host.old }
     ensures printed { H.printed host.new ≡ H.printed host.old }
@@ -66,7 +66,7 @@ fn read_settings_file<H: Host>(
     names: &SendWords,
     host: &mut H,
 ) -> Result<Option<Vec<u8>>, Stop>
-    ensures read { ForFiles (H.files host.old) (λ source. IsRead (option_map (λ v. v.items)) result (settings_file (names_of names.now).settings (source input.Settings))) }
+    ensures read { ForAccount (H.files host.old) (Rose (H.faults host.old) (H.faults host.new)) (λ source. IsRead (option_map (λ v. v.items)) result (settings_file (names_of names.now).settings (source input.Settings))) }
     ensures files { H.files host.new ≡ H.files host.old }
     ensures printed { H.printed host.new ≡ H.printed host.old }
     ensures later { H.faults host.old ≤ H.faults host.new }
@@ -83,7 +83,7 @@ fn read_settings_file<H: Host>(
 
 /// Reads the settings file first, and then the capture's file.
 fn read_files<H: Host>(alloc: Global, names: &SendWords, host: &mut H) -> Result<Files, Stop>
-    ensures read { ForFiles (H.files host.old) (λ source. IsRead bytes_seen result (bytes_read (names_of names.now) (source input.Settings) (source input.File))) }
+    ensures read { ForAccount (H.files host.old) (Rose (H.faults host.old) (H.faults host.new)) (λ source. IsRead bytes_seen result (bytes_read (names_of names.now) (source input.Settings) (source input.File))) }
     ensures within { IfOk result (λ f. length f.file.items ≤ 67108864) }
     ensures files { H.files host.new ≡ H.files host.old }
     ensures printed { H.printed host.new ≡ H.printed host.old }
@@ -99,22 +99,12 @@ fn read_files<H: Host>(alloc: Global, names: &SendWords, host: &mut H) -> Result
     }
 }
 
-/// The stop for a settings file that is refused, or for which there was no memory.
-fn settings_stop(fault: SettingFault) -> Stop
-    ensures { result ≡ stop_by_settings fault }
-{
-    match fault {
-        SettingFault::Memory => Stop::Memory,
-        _ => Stop::Settings(fault),
-    }
-}
-
 /// The most bytes of a frame: as the settings file has it, or the standard.
-fn max_frame(alloc: Global, files: &Files) -> Result<u32, Stop>
-    ensures read { IsRead (λ n. n) result (max_frame_in (option_map (λ v. v.items) files.now.settings)) }
+fn max_frame(alloc: Global, settings: &Option<Vec<u8>>) -> Result<u32, Stop>
+    ensures read { IsRead (λ n. n) result (max_frame_in (option_map (λ v. v.items) settings.now)) }
     ensures no_fault { IsReadFailed result → ⊥ }
 {
-    match &files.settings {
+    match settings {
         None => Ok(Settings::standard().frames.max_frame),
         Some(bytes) => match read_settings(alloc, bytes) {
             Ok(settings) => Ok(settings.frames.max_frame),
@@ -123,10 +113,10 @@ fn max_frame(alloc: Global, files: &Files) -> Result<u32, Stop>
     }
 }
 
-/// The capture of a file's bytes.
-fn parsed(alloc: Global, bytes: &[u8]) -> Result<Capture, Stop>
-    requires { length bytes.now ≤ 67108864 }
-    ensures read { IsRead (λ c. c.frames ∷ []) result (captures_in bytes.now) }
+/// The capture of a file's bytes, which it owns.
+fn parsed(alloc: Global, bytes: Vec<u8>) -> Result<Capture, Stop>
+    requires { length bytes.items ≤ 67108864 }
+    ensures read { IsRead (λ c. c.frames ∷ []) result (captures_in bytes.items) }
     ensures small { IfOk result (λ c. IsSmall c.frames) }
     ensures no_fault { IsReadFailed result → ⊥ }
 {
@@ -138,24 +128,25 @@ fn parsed(alloc: Global, bytes: &[u8]) -> Result<Capture, Stop>
 }
 
 /// What the files say. The settings are looked at before the capture.
-fn loaded(alloc: Global, files: &Files) -> Result<Load, Stop>
-    requires { length files.now.file.items ≤ 67108864 }
-    ensures read { IsRead load_seen result (load_in (bytes_seen files.now)) }
+fn loaded(alloc: Global, files: Files) -> Result<Load, Stop>
+    requires { length files.file.items ≤ 67108864 }
+    ensures read { IsRead load_seen result (load_in (bytes_seen files)) }
     ensures small { IfOk result (λ l. IsSmall l.capture.frames) }
     ensures no_fault { IsReadFailed result → ⊥ }
 {
-    match max_frame(alloc, files) {
+    let Files { settings, file } = files;
+    match max_frame(alloc, &settings) {
         Err(stop) => Err(stop),
-        Ok(max_frame) => match parsed(alloc, &files.file) {
+        Ok(max_frame) => match parsed(alloc, file) {
             Err(stop) => Err(stop),
             Ok(capture) => Ok(Load { max_frame, capture }),
         },
     }
 }
 
-/// Reads the files of `send`, whose bytes are given up once the frames are made.
+/// Reads the files of `send`. The capture owns its file's bytes.
 pub fn gathered<H: Host>(alloc: Global, names: &SendWords, host: &mut H) -> Result<Load, Stop>
-    ensures read { ForFiles (H.files host.old) (λ source. IsRead load_seen result (read_of (names_of names.now) source)) }
+    ensures read { ForAccount (H.files host.old) (Rose (H.faults host.old) (H.faults host.new)) (λ source. IsRead load_seen result (read_of (names_of names.now) source)) }
     ensures small { IfOk result (λ l. IsSmall l.capture.frames) }
     ensures files { H.files host.new ≡ H.files host.old }
     ensures printed { H.printed host.new ≡ H.printed host.old }
@@ -163,7 +154,7 @@ pub fn gathered<H: Host>(alloc: Global, names: &SendWords, host: &mut H) -> Resu
     ensures failed { IsReadFailed result → Rose (H.faults host.old) (H.faults host.new) }
 {
     match read_files(alloc, names, host) {
-        Ok(files) => loaded(alloc, &files),
+        Ok(files) => loaded(alloc, files),
         Err(stop) => Err(stop),
     }
 }

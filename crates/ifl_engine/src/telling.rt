@@ -1,38 +1,36 @@
 ghost use Rattle.std.specs.Prelude.{◌≡◌, [], None, IfOk};
 ghost use Rattle.std.specs.String.{string_bytes};
 ghost use Rattle.ifl_engine.specs.Read.{names_of};
-ghost use Rattle.ifl_engine.specs.Wanted.{line_for, word_line, setting_line, name_read as name_of_read};
+ghost use Rattle.ifl_engine.specs.FaultLines.{line_for, word_line, setting_line, name_read as name_of_read};
 ghost use Rattle.ifl_engine.specs.Seen.{seen};
 ghost use Rattle.ifl_engine.specs.Steps.{IsToldBy, IsTold};
 
-use crate::stop::{Input, Stop, status};
+use crate::stop::{Input, SettingsWhy, Stop, WordsWhy, status};
 use crate::words::{file_name, settings_name};
-use ifl_conf::{SendWords, SettingFault, WordFault};
+use ifl_conf::SendWords;
 use ifl_outside::{Host, HostError};
 use std::alloc::{AllocError, Global};
 
-/// The fault line of the words.
-fn word_line(f: WordFault) -> &'static str
-    ensures { result.now ≡ word_line f }
+/// The fault line of words that are refused.
+fn word_line(why: WordsWhy) -> &'static str
+    ensures { result.now ≡ word_line why }
 {
-    match f {
-        WordFault::NoCommand => "words: no command\n",
-        WordFault::UnknownCommand => "words: unknown command\n",
-        WordFault::Refused => "words: refused\n",
-        WordFault::Names => "words: names\n",
-        WordFault::Memory => "memory\n",
+    match why {
+        WordsWhy::NoCommand => "words: no command\n",
+        WordsWhy::UnknownCommand => "words: unknown command\n",
+        WordsWhy::Refused => "words: refused\n",
+        WordsWhy::Names => "words: names\n",
     }
 }
 
-/// The fault line of the settings.
-fn setting_line(alloc: Global, fault: SettingFault) -> Result<String, AllocError>
-    ensures { IfOk result (λ t. string_bytes t ≡ setting_line fault) }
+/// The fault line of a settings file that is refused.
+fn setting_line(alloc: Global, why: SettingsWhy) -> Result<String, AllocError>
+    ensures { IfOk result (λ t. string_bytes t ≡ setting_line why) }
 {
-    match fault {
-        SettingFault::Text => String::from_str(alloc, "settings: text\n"),
-        SettingFault::Unknown => String::from_str(alloc, "settings: unknown\n"),
-        SettingFault::Key(key) => format!(in alloc; "settings: {key}\n"),
-        SettingFault::Memory => String::from_str(alloc, "memory\n"),
+    match why {
+        SettingsWhy::Text => String::from_str(alloc, "settings: text\n"),
+        SettingsWhy::Unknown => String::from_str(alloc, "settings: unknown\n"),
+        SettingsWhy::Key(key) => format!(in alloc; "settings: {key}\n"),
     }
 }
 
@@ -58,7 +56,7 @@ fn fault_line(
     ensures { IfOk result (λ t. string_bytes t ≡ line_for (record { settings = settings.now; wire = wire.now; order = order.now; file = file.now }) stop) }
 {
     match stop {
-        Stop::Words(f) => String::from_str(alloc, word_line(f)),
+        Stop::Words(why) => String::from_str(alloc, word_line(why)),
         Stop::Absent(which) => {
             let name = name_read(which, settings, file);
             format!(in alloc; "absent: {name}\n")
@@ -67,7 +65,7 @@ fn fault_line(
             let name = name_read(which, settings, file);
             format!(in alloc; "limit: {name}\n")
         }
-        Stop::Settings(fault) => setting_line(alloc, fault),
+        Stop::Settings(why) => setting_line(alloc, why),
         Stop::Capture { at, why } => {
             let why = why.name();
             format!(in alloc; "capture: {file} at {at}: {why}\n")

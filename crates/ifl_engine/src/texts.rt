@@ -1,10 +1,10 @@
-ghost use Rattle.std.specs.Prelude.{◌≡◌, ◌++◌, IfOk, OnOk};
+ghost use Rattle.std.specs.Prelude.{◌≡◌, ◌++◌, codes, IfOk, OnOk};
 ghost use Rattle.std.specs.List.{flat_map};
 ghost use Rattle.std.specs.String.{string_bytes};
-ghost use Rattle.ifl_engine.specs.Texts.{text_line, count_line, order_line, away_line, order_text_of, counter_text_of};
+ghost use Rattle.ifl_engine.specs.Texts.{text_line, open_line, field, word_text, count_line, order_line, away_line, order_text_of, counter_text_of};
 
 use crate::report::{AwayLine, OrderLine, Report};
-use ifl_base::{Away, Fate, NoMemory, Ticket};
+use ifl_base::{Away, Fate, NoMemory, RingWord, Ticket};
 use std::alloc::Global;
 use std::fmt::Write;
 
@@ -36,7 +36,58 @@ fn put_order(out: &mut String, l: &OrderLine) -> Result<(), NoMemory>
 {
     match l.fate {
         Fate::Wire => put_line(out, l.ticket, "wire"),
+        Fate::TooManySegments => put_line(out, l.ticket, "too_many_segments"),
+        Fate::Reset => put_line(out, l.ticket, "reset"),
+        Fate::Flush => put_line(out, l.ticket, "flush"),
     }
+}
+
+/// Appends a text.
+fn put_text(out: &mut String, text: &str) -> Result<(), NoMemory>
+    ensures { OnOk result (string_bytes out.new ≡ string_bytes out.old ++ text.now) }
+{
+    out.push_str(text)?;
+    Ok(())
+}
+
+/// Appends a space and a number.
+fn put_field(out: &mut String, n: u16) -> Result<(), NoMemory>
+    ensures { OnOk result (string_bytes out.new ≡ string_bytes out.old ++ field n) }
+{
+    write!(out, " {n}")?;
+    Ok(())
+}
+
+/// Appends a word that was seen: its places and its flag, each behind a space.
+fn put_word(out: &mut String, seen: RingWord) -> Result<(), NoMemory>
+    ensures { OnOk result (string_bytes out.new ≡ string_bytes out.old ++ word_text seen) }
+{
+    put_field(out, seen.head)?;
+    put_field(out, seen.tail)?;
+    put_field(out, seen.cidx)?;
+    put_text(out, " ")?;
+    put_text(out, seen.flag.name())?;
+    Ok(())
+}
+
+/// Appends a ticket and a word, with single spaces between, and leaves the line open.
+fn put_open(out: &mut String, ticket: Ticket, text: &str) -> Result<(), NoMemory>
+    ensures { OnOk result (string_bytes out.new ≡ string_bytes out.old ++ open_line ticket.sender ticket.index text.now) }
+{
+    let sender = ticket.sender;
+    let index = ticket.index;
+    write!(out, "{sender} {index} {text}")?;
+    Ok(())
+}
+
+/// Appends a ticket and the word by which the ring had no room.
+fn put_refused(out: &mut String, ticket: Ticket, seen: RingWord) -> Result<(), NoMemory>
+    ensures { OnOk result (string_bytes out.new ≡ string_bytes out.old ++ text_line ticket.sender ticket.index (codes "no_buffers" ++ word_text seen)) }
+{
+    put_open(out, ticket, "no_buffers")?;
+    put_word(out, seen)?;
+    put_text(out, "\n")?;
+    Ok(())
 }
 
 fn put_away(out: &mut String, l: &AwayLine) -> Result<(), NoMemory>
@@ -45,6 +96,8 @@ fn put_away(out: &mut String, l: &AwayLine) -> Result<(), NoMemory>
     match l.away {
         Away::Runt => put_line(out, l.ticket, "runt"),
         Away::Oversize => put_line(out, l.ticket, "oversize"),
+        Away::NoClusters => put_line(out, l.ticket, "no_clusters"),
+        Away::NoBuffers(seen) => put_refused(out, l.ticket, seen),
     }
 }
 

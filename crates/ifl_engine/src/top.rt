@@ -1,27 +1,25 @@
-ghost use Rattle.std.specs.Prelude.{◌≡◌, ◌≢◌, ◌∷◌, [], Ok, None, IfSome, IsNone, map};
+ghost use Rattle.std.specs.Prelude.{◌≡◌, ◌≢◌, ◌∷◌, [], Ok, None, map};
 ghost use Rattle.std.specs.String.{string_bytes};
 ghost use Rattle.ifl_outside.specs.Causes.{Rose};
-ghost use Rattle.ifl_outside.specs.Told.{BothTold};
 ghost use Rattle.ifl_engine.specs.Words.{asked as asked_by_words, send};
 ghost use Rattle.ifl_engine.specs.Read.{names_of};
-ghost use Rattle.ifl_engine.specs.Report.{IsGood};
-ghost use Rattle.ifl_engine.specs.Wanted.{sending, wanted, work_of, names_in};
+ghost use Rattle.ifl_engine.specs.Account.{ForAccount};
+ghost use Rattle.ifl_engine.specs.Wanted.{sending, wanted, work_of};
+ghost use Rattle.ifl_engine.specs.FaultLines.{names_in};
 ghost use Rattle.ifl_engine.specs.Seen.{seen};
-ghost use Rattle.ifl_engine.specs.Left.{IsStanding};
-ghost use Rattle.ifl_engine.specs.CutShort.{IsCutShort};
-ghost use Rattle.ifl_engine.specs.Answer.{ForFiles, IsAnswer, IsDone, IfSending, IsReported, IsReplayed, IsStatus, IsCalledFor, IsByWords, Tells};
+ghost use Rattle.ifl_engine.specs.Answer.{IsAnswer, IsByWords, IsRefusal};
 ghost use Rattle.ifl_engine.specs.Steps.{IsSmall, IsTold};
 
 use crate::plain::report_of;
 use crate::reading::{Load, gathered};
 use crate::report::Finished;
-use crate::stop::Stop;
+use crate::stop::{Stop, WordsWhy};
 use crate::telling::{tell, tell_named};
 use crate::tracing::trace;
 use crate::words::asked;
 use crate::writing::put_out;
 use ifl_base::NoMemory;
-use ifl_conf::{Command, SendWords, WordFault};
+use ifl_conf::{Command, SendWords};
 use ifl_outside::{Gate, Host};
 use std::alloc::Global;
 use std::sync::Wait;
@@ -63,7 +61,8 @@ fn work<H: Host>(alloc: Global, names: &SendWords, load: Load, host: &mut H) -> 
 fn send<H: Host>(alloc: Global, names: &SendWords, host: &mut H) -> Finished
     requires { string_bytes names.now.wire ≢ string_bytes names.now.order }
     ensures by_words { result.status ≢ 1 }
-    ensures answer { ForFiles (H.files host.old) (λ source. IsAnswer (names_of names.now) (work_of (send (names_of names.now)) source)
+    ensures answer { ForAccount (H.files host.old) (Rose (H.faults host.old) (H.faults host.new)) (λ source.
+        IsAnswer (names_of names.now) (work_of (send (names_of names.now)) source)
         (seen H.faults H.files H.printed host.old) (seen H.faults H.files H.printed host.new) result) }
 {
     match gathered(alloc, names, host) {
@@ -78,23 +77,24 @@ fn send<H: Host>(alloc: Global, names: &SendWords, host: &mut H) -> Finished
     }
 }
 
-/// The end of a run whose words are refused.
-fn refuse<H: Host>(alloc: Global, fault: WordFault, host: &mut H) -> Finished
+/// The end of a run whose words are refused, or for whose words there was no memory.
+fn refuse<H: Host>(alloc: Global, stop: Stop, host: &mut H) -> Finished
     ensures report { result.report ≡ None }
-    ensures told { IsTold (record { settings = None; wire = []; order = []; file = [] }) (Stop.Words fault)
+    ensures told { IsTold (record { settings = None; wire = []; order = []; file = [] }) stop
         (seen H.faults H.files H.printed host.old) (seen H.faults H.files H.printed host.new) result.status }
 {
-    let status = tell(alloc, "", Stop::Words(fault), host);
+    let status = tell(alloc, "", stop, host);
     Finished {
         status,
         report: None,
     }
 }
 
-/// The whole call, with one account of the files for all that is said of it.
+/// The command that the words ask for.
 fn answer<H: Host>(alloc: Global, words: &[String], host: &mut H) -> Finished
-    ensures by_words { IsByWords (asked_by_words (map string_bytes words.now)) result.status }
-    ensures answer { ForFiles (H.files host.old) (λ source. IsAnswer (names_in (map string_bytes words.now)) (wanted (map string_bytes words.now) source)
+    ensures words { IsByWords (asked_by_words (map string_bytes words.now)) result.status }
+    ensures answer { ForAccount (H.files host.old) (Rose (H.faults host.old) (H.faults host.new)) (λ source.
+        IsAnswer (names_in (map string_bytes words.now)) (wanted (map string_bytes words.now) source)
         (seen H.faults H.files H.printed host.old) (seen H.faults H.files H.printed host.new) result) }
 {
     match asked(alloc, words) {
@@ -106,9 +106,9 @@ fn answer<H: Host>(alloc: Global, words: &[String], host: &mut H) -> Finished
                 report: None,
             }
         }
-        Ok(Command::Gen(_)) => refuse(alloc, WordFault::Refused, host),
-        Ok(Command::Check(_)) => refuse(alloc, WordFault::Refused, host),
-        Err(fault) => refuse(alloc, fault, host),
+        Ok(Command::Gen(_)) => refuse(alloc, Stop::Words(WordsWhy::Refused), host),
+        Ok(Command::Check(_)) => refuse(alloc, Stop::Words(WordsWhy::Refused), host),
+        Err(stop) => refuse(alloc, stop, host),
     }
 }
 
@@ -126,43 +126,17 @@ pub fn run<R: Threads + Wait, H: Host, G: Gate>(
     // Status 1 comes exactly where the words are refused.
     ensures words { IsByWords (asked_by_words (map string_bytes words.now)) result.status }
 
-    // Each other status is the one that the words and the files call for, or 5 or 6.
-    ensures status { ForFiles (H.files host.old) (λ source. IsStatus (wanted (map string_bytes words.now) source) result.status) }
+    // There is one account of what the host's files were found to be, and by it each status has its cause, a report is
+    // good for the captures, and what stands in the files and what was printed is the report's, a replay, or a fault line.
+    ensures answer { ForAccount (H.files host.old) (Rose (H.faults host.old) (H.faults host.new)) (λ source.
+        IsAnswer (names_in (map string_bytes words.now)) (wanted (map string_bytes words.now) source)
+        (seen H.faults H.files H.printed host.old) (seen H.faults H.files H.printed host.new) result) }
 
     // Status 5 comes only where the host has failed in this call.
     ensures failed { result.status ≡ 5 → Rose (H.faults host.old) (H.faults host.new) }
 
-    // Where it has not, the status is the one that is called for, or 6.
-    ensures complete { ¬ Rose (H.faults host.old) (H.faults host.new) →
-        ForFiles (H.files host.old) (λ source. IsCalledFor (wanted (map string_bytes words.now) source) result.status) }
-
-    // A report is good for the captures, wherever there is one.
-    ensures good { IfSome result.report (λ r. ForFiles (H.files host.old) (λ source.
-        IfSending (wanted (map string_bytes words.now) source) (λ max_frame captures. IsGood max_frame captures r))) }
-    ensures there { result.status ≡ 0 → ForFiles (H.files host.old) (λ source. IsReported (wanted (map string_bytes words.now) source) result.report) }
-
-    // At status 0 the files and the printed bytes are those of the report, and nothing else has changed.
-    ensures done { result.status ≡ 0 → IfSome result.report (λ r. IsDone (names_in (map string_bytes words.now)) r
-        (seen H.faults H.files H.printed host.old) (seen H.faults H.files H.printed host.new)) }
-
-    // Wherever there is a report, the writes were made in turn, and no other file has changed.
-    ensures left { IfSome result.report (λ r. BothTold (H.files host.old) (H.files host.new) (IsStanding (names_in (map string_bytes words.now)) r)) }
-
-    // Without a report no file was written.
-    ensures untouched { IsNone result.report → H.files host.new ≡ H.files host.old }
-
-    // At status 0 a replay was printed whole, and at status 9 its beginning was, also where the host has failed.
-    ensures replayed { result.status ≢ 5 → result.status ≢ 6 → ForFiles (H.files host.old) (λ source. IsReplayed (wanted (map string_bytes words.now) source) result.status
-        (H.printed host.old) (H.printed host.new)) }
-
-    // A run that was stopped printed the beginning of its ending, if that print failed, and behind it its fault line.
-    ensures stopped { result.status ≢ 0 → result.status ≢ 9 → ForFiles (H.files host.old) (λ source. IsCutShort (names_in (map string_bytes words.now)) (wanted (map string_bytes words.now) source)
-        (seen H.faults H.files H.printed host.old) (seen H.faults H.files H.printed host.new) result) }
-
-    // Where the host has not failed, a refusal is told by its line.
-    ensures told { ¬ Rose (H.faults host.old) (H.faults host.new) → result.status ≢ 6 →
-        ForFiles (H.files host.old) (λ source. Tells (names_in (map string_bytes words.now)) (wanted (map string_bytes words.now) source) result.status
-        (H.printed host.old) (H.printed host.new)) }
+    // After a refusal there is no report, and no file was written, whatever the host tells.
+    ensures refused { IsRefusal result.status → (result.report ≡ None) × (H.files host.new ≡ H.files host.old) }
 {
     answer(alloc, words, host)
 }

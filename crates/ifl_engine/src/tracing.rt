@@ -4,17 +4,18 @@ ghost use Rattle.std.specs.String.{string_bytes};
 ghost use Rattle.ifl_ringcore.specs.Texts.{fault_line};
 ghost use Rattle.ifl_engine.specs.Words.{trace, asked as asked_by_words};
 ghost use Rattle.ifl_engine.specs.Tracing.{IsReplay};
-ghost use Rattle.ifl_engine.specs.Wanted.{tracing, names_asked, names_or_none, only_trace, work_of, wanted_by};
+ghost use Rattle.ifl_engine.specs.Account.{ForAccount};
+ghost use Rattle.ifl_engine.specs.Wanted.{tracing, only_trace, work_of, wanted_by};
+ghost use Rattle.ifl_engine.specs.FaultLines.{names_asked, names_or_none};
 ghost use Rattle.ifl_engine.specs.Seen.{seen};
-ghost use Rattle.ifl_engine.specs.CutShort.{IsCutShort};
-ghost use Rattle.ifl_engine.specs.Answer.{ForFiles, IsAnswer, IsReplayed, IsStatus, IsCalledFor, IsByWords, Tells};
+ghost use Rattle.ifl_engine.specs.Answer.{IsAnswer, IsByWords};
 
 use crate::reading::read_file;
-use crate::stop::{Input, Stop};
+use crate::stop::{Input, Stop, WordsWhy};
 use crate::telling::tell;
 use crate::words::asked;
 use ifl_base::{Items, NoMemory};
-use ifl_conf::{Command, WordFault};
+use ifl_conf::Command;
 use ifl_outside::{Host, HostError};
 use ifl_ringcore::{ScheduleFault, Trace, read_schedule, replay};
 use std::alloc::Global;
@@ -77,7 +78,8 @@ fn print_replay<H: Host>(alloc: Global, file: &str, bytes: &[u8], host: &mut H) 
 /// The command `trace`: reads a schedule and prints its replay. No file is written.
 pub fn trace<H: Host>(alloc: Global, file: &str, host: &mut H) -> u8
     ensures by_words { result ≢ 1 }
-    ensures answer { ForFiles (H.files host.old) (λ source. IsAnswer (names_asked (trace file.now)) (work_of (trace file.now) source)
+    ensures answer { ForAccount (H.files host.old) (Rose (H.faults host.old) (H.faults host.new)) (λ source.
+        IsAnswer (names_asked (trace file.now)) (work_of (trace file.now) source)
         (seen H.faults H.files H.printed host.old) (seen H.faults H.files H.printed host.new) (record { status = result; report = None })) }
 {
     match read_file(alloc, Input::File, file, SCHEDULE_MAX, host) {
@@ -86,18 +88,19 @@ pub fn trace<H: Host>(alloc: Global, file: &str, host: &mut H) -> u8
     }
 }
 
-/// The whole call of `run_trace`, with one account of the files for all that is said of it.
+/// The command `trace`, where the words ask for it.
 fn answer_trace<H: Host>(alloc: Global, words: &[String], host: &mut H) -> u8
     ensures by_words { IsByWords (only_trace (asked_by_words (map string_bytes words.now))) result }
-    ensures answer { ForFiles (H.files host.old) (λ source. IsAnswer (names_or_none (only_trace (asked_by_words (map string_bytes words.now)))) (wanted_by (only_trace (asked_by_words (map string_bytes words.now))) source)
+    ensures answer { ForAccount (H.files host.old) (Rose (H.faults host.old) (H.faults host.new)) (λ source.
+        IsAnswer (names_or_none (only_trace (asked_by_words (map string_bytes words.now)))) (wanted_by (only_trace (asked_by_words (map string_bytes words.now))) source)
         (seen H.faults H.files H.printed host.old) (seen H.faults H.files H.printed host.new) (record { status = result; report = None })) }
 {
     match asked(alloc, words) {
         Ok(Command::Trace { file }) => trace(alloc, file.as_str(), host),
-        Ok(Command::Send(_)) => tell(alloc, "", Stop::Words(WordFault::Refused), host),
-        Ok(Command::Gen(_)) => tell(alloc, "", Stop::Words(WordFault::Refused), host),
-        Ok(Command::Check(_)) => tell(alloc, "", Stop::Words(WordFault::Refused), host),
-        Err(fault) => tell(alloc, "", Stop::Words(fault), host),
+        Ok(Command::Send(_)) => tell(alloc, "", Stop::Words(WordsWhy::Refused), host),
+        Ok(Command::Gen(_)) => tell(alloc, "", Stop::Words(WordsWhy::Refused), host),
+        Ok(Command::Check(_)) => tell(alloc, "", Stop::Words(WordsWhy::Refused), host),
+        Err(stop) => tell(alloc, "", stop, host),
     }
 }
 
@@ -108,31 +111,17 @@ pub fn run_trace<H: Host>(alloc: Global, words: &[String], host: &mut H) -> u8
     // Status 1 comes exactly where the words are not those of `trace`.
     ensures words { IsByWords (only_trace (asked_by_words (map string_bytes words.now))) result }
 
-    // Each other status is the one that the words and the file call for, or 5 or 6.
-    ensures status { ForFiles (H.files host.old) (λ source. IsStatus (wanted_by (only_trace (asked_by_words (map string_bytes words.now))) source) result) }
+    // There is one account of what the schedule's file was found to be, and by it the status has its cause, and what was
+    // printed is the replay, or a fault line.
+    ensures answer { ForAccount (H.files host.old) (Rose (H.faults host.old) (H.faults host.new)) (λ source.
+        IsAnswer (names_or_none (only_trace (asked_by_words (map string_bytes words.now)))) (wanted_by (only_trace (asked_by_words (map string_bytes words.now))) source)
+        (seen H.faults H.files H.printed host.old) (seen H.faults H.files H.printed host.new) (record { status = result; report = None })) }
 
     // Status 5 comes only where the host has failed in this call.
     ensures failed { result ≡ 5 → Rose (H.faults host.old) (H.faults host.new) }
 
-    // Where it has not, the status is the one that is called for, or 6.
-    ensures complete { ¬ Rose (H.faults host.old) (H.faults host.new) →
-        ForFiles (H.files host.old) (λ source. IsCalledFor (wanted_by (only_trace (asked_by_words (map string_bytes words.now))) source) result) }
-
     // No file is written.
     ensures untouched { H.files host.new ≡ H.files host.old }
-
-    // At status 0 the replay was printed whole, and at status 9 its beginning was, also where the host has failed.
-    ensures replayed { result ≢ 5 → result ≢ 6 → ForFiles (H.files host.old) (λ source. IsReplayed (wanted_by (only_trace (asked_by_words (map string_bytes words.now))) source) result
-        (H.printed host.old) (H.printed host.new)) }
-
-    // A call that was stopped printed the beginning of its replay, if that print failed, and behind it its fault line.
-    ensures stopped { result ≢ 0 → result ≢ 9 → ForFiles (H.files host.old) (λ source. IsCutShort (names_or_none (only_trace (asked_by_words (map string_bytes words.now)))) (wanted_by (only_trace (asked_by_words (map string_bytes words.now))) source)
-        (seen H.faults H.files H.printed host.old) (seen H.faults H.files H.printed host.new) (record { status = result; report = None })) }
-
-    // Where the host has not failed, the replay was printed, or the line of a refusal.
-    ensures told { ¬ Rose (H.faults host.old) (H.faults host.new) → result ≢ 6 →
-        ForFiles (H.files host.old) (λ source. Tells (names_or_none (only_trace (asked_by_words (map string_bytes words.now)))) (wanted_by (only_trace (asked_by_words (map string_bytes words.now))) source) result
-        (H.printed host.old) (H.printed host.new)) }
 {
     answer_trace(alloc, words, host)
 }

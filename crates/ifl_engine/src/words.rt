@@ -3,17 +3,22 @@ ghost use Rattle.std.specs.String.{string_bytes};
 ghost use Rattle.ifl_engine.specs.Words.{asked, or_empty, first_name};
 ghost use Rattle.ifl_engine.specs.Read.{GivesWords, IsApart};
 
-use ifl_conf::{Command, SendWords, WordFault, read_words};
+use crate::stop::{Stop, words_stop};
+use ifl_conf::{Command, SendWords, read_words};
 use std::alloc::Global;
 
 /// Reads the words behind the program's name.
 ///
-/// A fault is the first in the order of [`WordFault`]; the two files that `send` is to write have two names.
-pub fn asked(alloc: Global, words: &[String]) -> Result<Command, WordFault>
+/// A fault is the first in the order of [`WordFault`](ifl_conf::WordFault); the two files that `send` is to write have
+/// two names.
+pub fn asked(alloc: Global, words: &[String]) -> Result<Command, Stop>
     ensures gives { GivesWords result (asked (map string_bytes words.now)) }
     ensures apart { IfOk result IsApart }
 {
-    read_words(alloc, words)
+    match read_words(alloc, words) {
+        Ok(command) => Ok(command),
+        Err(fault) => Err(words_stop(fault)),
+    }
 }
 
 /// The settings file's name, or the empty text where none is given.

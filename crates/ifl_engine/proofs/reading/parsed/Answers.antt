@@ -3,10 +3,10 @@ use Rattle.ifl_engine.proofs.ReadLaws.{captures_in-ok, captures_in-bad}
 use Rattle.ifl_engine.proofs.reading.parsed.Goals as goal
 
 pub returns-in-Ok-clause-read : goal.returns-in-Ok-clause-read
-returns-in-Ok-clause-read c = captures_in-ok c.args.bytes.now c.in-Ok.capture.frames c.in-Ok.ensures.exact
+returns-in-Ok-clause-read c = captures_in-ok c.args.bytes.items c.in-Ok.capture.frames c.in-Ok.ensures.exact
 
 pub returns-in-Ok-clause-small : goal.returns-in-Ok-clause-small
-returns-in-Ok-clause-small c = is_small c.args.bytes.now c.in-Ok.capture.frames c.requires c.in-Ok.ensures.found
+returns-in-Ok-clause-small c = is_small c.args.bytes.items c.in-Ok.capture.frames c.requires c.in-Ok.ensures.found
 
 pub returns-in-Err-Bad-clause-read : goal.returns-in-Err-Bad-clause-read
-returns-in-Err-Bad-clause-read c = let exact = rw c.in-Err-Bad.field-0-is at c.in-Err-Bad.ensures.exact in captures_in-bad c.args.bytes.now c.in-Err-Bad.at c.in-Err-Bad.why exact
+returns-in-Err-Bad-clause-read c = let exact = rw c.in-Err-Bad.field-0-is at c.in-Err-Bad.ensures.exact in captures_in-bad c.args.bytes.items c.in-Err-Bad.at c.in-Err-Bad.why exact

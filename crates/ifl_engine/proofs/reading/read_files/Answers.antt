@@ -2,7 +2,9 @@ use Rattle.std.proofs.Common.{◌≡◌, Ok, Err}
 use Rattle.std.specs.Prelude.{option_map}
 use Rattle.ifl_engine.specs.declared.stop.Input.TheVariants as input
 use Rattle.ifl_engine.specs.Read.{names_of}
-use Rattle.ifl_engine.specs.Wanted.{Held, file_at, settings_file}
+use Rattle.ifl_engine.specs.Account.{Held}
+use Rattle.ifl_engine.specs.Loading.{file_at, settings_file}
+use Rattle.ifl_engine.proofs.Risen.{risen, risen_late}
 use Rattle.ifl_engine.specs.Loaded.{bytes_seen}
 use Rattle.ifl_engine.specs.Steps.{IsRead}
 use Rattle.ifl_engine.proofs.ReadLaws.{bytes_of, for_both}
@@ -11,18 +13,18 @@ use Rattle.ifl_engine.proofs.reading.read_files.Goals as goal
 
 pub returns-in-Err-read_file-clause-read : goal.returns-in-Err-read_file-clause-read
 returns-in-Err-read_file-clause-read g c =
-    for_both (g.H.Host.files c.args.host.now)
+    for_both (g.H.Host.files c.args.host.now) _ _ _
     (λ (held : Held). settings_file (names_of c.args.names.now).settings held ≡ Ok (option_map bytes_of c.in-Ok.settings))
-    (λ (held : Held). IsRead bytes_of (Err c.in-Err-read_file.stop) (file_at input.File 67108864 (held (names_of c.args.names.now).file))) _
+    (λ (held : Held). IsRead bytes_of (Err c.in-Err-read_file.stop) (file_at input.File 67108864 (held (names_of c.args.names.now).file))) _ (λ rose. risen (g.H.Host.faults c.args.host.now) (g.H.Host.faults c.read_settings_file.new.host) (g.H.Host.faults c.read_file.new.host) rose c.in-Err-read_file.ensures.later) (λ rose. risen_late (g.H.Host.faults c.args.host.now) (g.H.Host.faults c.read_settings_file.new.host) (g.H.Host.faults c.read_file.new.host) c.in-Ok.ensures.later rose)
     (λ source first second. bytes_read-stopped bytes_seen (names_of c.args.names.now) (source input.Settings) (source input.File) (option_map bytes_of c.in-Ok.settings) c.in-Err-read_file.stop first second)
     c.in-Ok.ensures.read
     (rw (c.file_name.ensures, c.in-Ok.ensures.files) at c.in-Err-read_file.ensures.read)
 
 pub returns-in-Ok-read_file-clause-read : goal.returns-in-Ok-read_file-clause-read
 returns-in-Ok-read_file-clause-read g c =
-    for_both (g.H.Host.files c.args.host.now)
+    for_both (g.H.Host.files c.args.host.now) _ _ _
     (λ (held : Held). settings_file (names_of c.args.names.now).settings held ≡ Ok (option_map bytes_of c.in-Ok.settings))
-    (λ (held : Held). file_at input.File 67108864 (held (names_of c.args.names.now).file) ≡ Ok c.in-Ok-read_file.file.items) _
+    (λ (held : Held). file_at input.File 67108864 (held (names_of c.args.names.now).file) ≡ Ok c.in-Ok-read_file.file.items) _ (λ rose. risen (g.H.Host.faults c.args.host.now) (g.H.Host.faults c.read_settings_file.new.host) (g.H.Host.faults c.read_file.new.host) rose c.in-Ok-read_file.ensures.later) (λ rose. risen_late (g.H.Host.faults c.args.host.now) (g.H.Host.faults c.read_settings_file.new.host) (g.H.Host.faults c.read_file.new.host) c.in-Ok.ensures.later rose)
     (λ source first second. bytes_read-ok (names_of c.args.names.now) (source input.Settings) (source input.File) (option_map bytes_of c.in-Ok.settings) c.in-Ok-read_file.file.items first second)
     c.in-Ok.ensures.read
     (rw (c.file_name.ensures, c.in-Ok.ensures.files) at c.in-Ok-read_file.ensures.read)

@@ -1,8 +1,9 @@
 use Rattle.ifl_engine.specs.Read.{names_of}
-use Rattle.ifl_engine.specs.Wanted.{read_of}
+use Rattle.ifl_engine.specs.Loading.{read_of}
 use Rattle.ifl_engine.specs.Loaded.{load_seen}
 use Rattle.ifl_engine.specs.Seen.{seen}
-use Rattle.ifl_engine.proofs.ReadLaws.{for_each, from_files}
+use Rattle.ifl_engine.proofs.ReadLaws.{for_each, from_account}
+use Rattle.ifl_engine.proofs.Risen.{risen}
 use Rattle.ifl_engine.proofs.Stopping.{send_stopped}
 use Rattle.ifl_engine.proofs.Since.{send_read}
 use Rattle.ifl_engine.proofs.Refusing.{not_by_words}
@@ -10,7 +11,7 @@ use Rattle.ifl_engine.proofs.top.send.Goals as goal
 
 pub returns-in-Ok-clause-answer : goal.returns-in-Ok-clause-answer
 returns-in-Ok-clause-answer g c =
-    for_each (g.H.Host.files c.args.host.now) _ _
+    for_each (g.H.Host.files c.args.host.now) _ _ _ _ (λ rose. risen (g.H.Host.faults c.args.host.now) (g.H.Host.faults c.gathered.new.host) (g.H.Host.faults c.work.new.host) rose (c.work.ensures.answer.later))
     (λ source read. send_read (names_of c.args.names.now) source (load_seen c.in-Ok.load)
     (seen g.H.Host.faults g.H.Host.files g.H.Host.printed c.args.host.now)
     (seen g.H.Host.faults g.H.Host.files g.H.Host.printed c.gathered.new.host)
@@ -20,7 +21,7 @@ returns-in-Ok-clause-answer g c =
 
 pub returns-in-Err-clause-answer : goal.returns-in-Err-clause-answer
 returns-in-Err-clause-answer g c =
-    for_each (g.H.Host.files c.args.host.now) _ _
+    for_each (g.H.Host.files c.args.host.now) _ _ _ _ (λ rose. risen (g.H.Host.faults c.args.host.now) (g.H.Host.faults c.gathered.new.host) (g.H.Host.faults c.tell_named-status.new.host) rose c.tell_named-status.ensures.later)
     (λ source read. send_stopped load_seen (names_of c.args.names.now) c.in-Err.stop source
     (seen g.H.Host.faults g.H.Host.files g.H.Host.printed c.args.host.now)
     (seen g.H.Host.faults g.H.Host.files g.H.Host.printed c.gathered.new.host)
@@ -29,4 +30,4 @@ returns-in-Err-clause-answer g c =
     c.in-Err.ensures.read
 
 pub returns-in-Err-clause-by_words : goal.returns-in-Err-clause-by_words
-returns-in-Err-clause-by_words g c = from_files (g.H.Host.files c.args.host.now) _ _ (λ source read. not_by_words load_seen (names_of c.args.names.now) c.in-Err.stop (read_of (names_of c.args.names.now) source) _ _ c.tell_named-status.result read c.tell_named-status.ensures) c.in-Err.ensures.read
+returns-in-Err-clause-by_words g c = from_account (g.H.Host.files c.args.host.now) _ _ _ (λ source read. not_by_words load_seen (names_of c.args.names.now) c.in-Err.stop (read_of (names_of c.args.names.now) source) _ _ c.tell_named-status.result read c.tell_named-status.ensures) c.in-Err.ensures.read

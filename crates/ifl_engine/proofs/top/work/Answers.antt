@@ -1,11 +1,11 @@
-use Rattle.std.proofs.Common.{◌∷◌, [], None, Ok, inr, refl, arith}
+use Rattle.std.proofs.Common.{◌∷◌, [], None, Ok, refl, arith}
 use Rattle.ifl_engine.specs.declared.stop.Stop.TheVariants as stop
 use Rattle.ifl_engine.specs.Read.{names_of}
 use Rattle.ifl_engine.specs.Wanted.{sending}
 use Rattle.ifl_engine.specs.Seen.{seen}
 use Rattle.ifl_engine.specs.CutShort.{IsEnding}
 use Rattle.ifl_engine.proofs.CutShort.{begins_empty}
-use Rattle.ifl_engine.proofs.Stopping.{gave_up}
+use Rattle.ifl_engine.proofs.Stopping.{no_memory}
 use Rattle.ifl_engine.proofs.HostStops.{write_stopped}
 use Rattle.ifl_engine.proofs.top.work.Goals as goal
 
@@ -13,9 +13,9 @@ pub returns-in-Err-clause-answer : goal.returns-in-Err-clause-answer
 returns-in-Err-clause-answer g c =
     let before = (seen g.H.Host.faults g.H.Host.files g.H.Host.printed c.args.host.now) in
     let work = Ok (sending (names_of c.args.names.now) c.args.load.max_frame (c.args.load.capture.frames ∷ [])) in
-    gave_up (names_of c.args.names.now) work stop.Memory before before
+    no_memory (names_of c.args.names.now) work before before
     (seen g.H.Host.faults g.H.Host.files g.H.Host.printed c.tell_named-status.new.host)
-    c.tell_named-status.result (inr refl) tt (λ five. absurd (omega (arith, five))) refl (begins_empty stop.Memory (IsEnding work None) before.printed before.printed refl) (omega arith) c.tell_named-status.ensures
+    c.tell_named-status.result refl (begins_empty stop.Memory (IsEnding work None) before.printed before.printed refl) (omega arith) c.tell_named-status.ensures
 
 pub returns-in-Err-put_out-clause-answer : goal.returns-in-Err-put_out-clause-answer
 returns-in-Err-put_out-clause-answer g c =

@@ -1,13 +1,14 @@
 use Rattle.std.proofs.Common.{None}
 use Rattle.ifl_engine.specs.Seen.{seen}
 use Rattle.ifl_engine.proofs.ReadLaws.{for_each}
+use Rattle.ifl_engine.proofs.Risen.{risen}
 use Rattle.ifl_engine.proofs.Since.{trace_read}
 use Rattle.ifl_engine.proofs.Stopping.{trace_stopped}
 use Rattle.ifl_engine.proofs.tracing.trace.Goals as goal
 
 pub returns-in-Ok-clause-answer : goal.returns-in-Ok-clause-answer
 returns-in-Ok-clause-answer g c =
-    for_each (g.H.Host.files c.args.host.now) _ _
+    for_each (g.H.Host.files c.args.host.now) _ _ _ _ (λ rose. risen (g.H.Host.faults c.args.host.now) (g.H.Host.faults c.read_file.new.host) (g.H.Host.faults c.print_replay.new.host) rose c.print_replay.ensures.answer.later)
     (λ source read. trace_read c.args.file.now source c.in-Ok.bytes.items
     (seen g.H.Host.faults g.H.Host.files g.H.Host.printed c.args.host.now)
     (seen g.H.Host.faults g.H.Host.files g.H.Host.printed c.read_file.new.host)
@@ -17,7 +18,7 @@ returns-in-Ok-clause-answer g c =
 
 pub returns-in-Err-clause-answer : goal.returns-in-Err-clause-answer
 returns-in-Err-clause-answer g c =
-    for_each (g.H.Host.files c.args.host.now) _ _
+    for_each (g.H.Host.files c.args.host.now) _ _ _ _ (λ rose. risen (g.H.Host.faults c.args.host.now) (g.H.Host.faults c.read_file.new.host) (g.H.Host.faults c.tell.new.host) rose c.tell.ensures.later)
     (λ source read. trace_stopped c.args.file.now c.in-Err.stop source
     (seen g.H.Host.faults g.H.Host.files g.H.Host.printed c.args.host.now)
     (seen g.H.Host.faults g.H.Host.files g.H.Host.printed c.read_file.new.host)

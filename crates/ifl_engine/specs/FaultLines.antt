@@ -1,0 +1,70 @@
+-- The fault line of each stop: what stopped the run, with names as given.
+use Rattle.std.specs.Prelude.{ℕ, List, [], ◌++◌, None, Result, Ok, Err, codes, decimal}
+use Rattle.ifl_pcap.specs.Names.{why_name}
+use Rattle.ifl_conf.specs.KeyText.{key_text}
+use Rattle.ifl_engine.specs.declared.stop.WordsWhy.{WordsWhy}
+use Rattle.ifl_engine.specs.declared.stop.WordsWhy.TheVariants as bad_word
+use Rattle.ifl_engine.specs.declared.stop.SettingsWhy.{SettingsWhy}
+use Rattle.ifl_engine.specs.declared.stop.SettingsWhy.TheVariants as bad_setting
+use Rattle.ifl_engine.specs.declared.stop.Stop.{Stop}
+use Rattle.ifl_engine.specs.declared.stop.Stop.TheVariants as stop
+use Rattle.ifl_engine.specs.declared.stop.Input.{Input}
+use Rattle.ifl_engine.specs.declared.stop.Input.TheVariants as input
+use Rattle.ifl_engine.specs.Words.{Named, Asked, send, trace, asked, or_empty}
+
+-- the line of words that are refused
+abbrev pub word_line : WordsWhy → List ℕ
+word_line bad_word.NoCommand = codes "words: no command\n"
+word_line bad_word.UnknownCommand = codes "words: unknown command\n"
+word_line bad_word.Refused = codes "words: refused\n"
+word_line bad_word.Names = codes "words: names\n"
+
+-- the line of a settings file that is refused
+abbrev pub setting_line : SettingsWhy → List ℕ
+setting_line bad_setting.Text = codes "settings: text\n"
+setting_line bad_setting.Unknown = codes "settings: unknown\n"
+setting_line (bad_setting.Key k) = codes "settings: " ++ (key_text k ++ codes "\n")
+
+-- the names as fault lines tell them
+pub record Shown : Type 0 where
+  pub settings : List ℕ
+  pub wire : List ℕ
+  pub order : List ℕ
+  pub file : List ℕ
+
+abbrev pub shown : Named → Shown
+shown names = record { settings = or_empty names.settings; wire = names.wire; order = names.order; file = names.file }
+
+-- the name of a file that is read: that of the settings file, or that of the capture or schedule
+abbrev pub name_read : List ℕ → List ℕ → Input → List ℕ
+name_read settings file input.Settings = settings
+name_read settings file input.File = file
+
+-- what stopped the run, and where and why a file is no capture
+abbrev pub line_for : Shown → Stop → List ℕ
+line_for names (stop.Words why) = word_line why
+line_for names (stop.Absent which) = codes "absent: " ++ (name_read names.settings names.file which ++ codes "\n")
+line_for names (stop.TooLong which) = codes "limit: " ++ (name_read names.settings names.file which ++ codes "\n")
+line_for names (stop.Settings why) = setting_line why
+line_for names (stop.Capture at why) = codes "capture: " ++ (names.file ++ (codes " at " ++ (decimal at ++ (codes ": " ++ (why_name why ++ codes "\n")))))
+line_for names (stop.ReadFailed which) = codes "host: read " ++ (name_read names.settings names.file which ++ codes "\n")
+line_for names stop.WireFailed = codes "host: write " ++ (names.wire ++ codes "\n")
+line_for names stop.OrderFailed = codes "host: write " ++ (names.order ++ codes "\n")
+line_for names stop.PrintFailed = codes "host: print\n"
+line_for names stop.Memory = codes "memory\n"
+
+abbrev pub line_of : Named → Stop → List ℕ
+line_of names why = line_for (shown names) why
+
+-- the names that the fault lines of a command may tell
+abbrev pub names_asked : Asked → Named
+names_asked (send names) = names
+names_asked (trace file) = record { settings = None; wire = []; order = []; file = file }
+
+-- the names, where the words have them
+abbrev pub names_or_none : Result Asked WordsWhy → Named
+names_or_none (Ok command) = names_asked command
+names_or_none (Err why) = record { settings = None; wire = []; order = []; file = [] }
+
+abbrev pub names_in : List (List ℕ) → Named
+names_in words = names_or_none (asked words)
