@@ -30,18 +30,18 @@ position_from-le name (x ∷ es) j i e = elim (bears name x) as (λ b. cond b (S
 
 held-none_from : (name : List ℕ) (es : List FileEntry) (j : ℕ) → position_from (bears name) j es ≡ None → held (files_of es) name ≡ None
 held-none_from name [] j e = refl
-held-none_from name (x ∷ es) j e = elim (bears name x) as (λ b. cond b (Some j) (position_from (bears name) (j + 1) es) ≡ None → cond b (Some x.bytes.items) (held (files_of es) name) ≡ None) [
+held-none_from name (x ∷ es) j e = elim (bears name x) as (λ b. cond b (Some j) (position_from (bears name) (j + 1) es) ≡ None → cond b (Some x.bytes) (held (files_of es) name) ≡ None) [
   | true ↦ λ e. absurd cc
   | false ↦ λ e. held-none_from name es (j + 1) e
 ] e
 
-held-some_from : (name : List ℕ) (es : List FileEntry) (j k : ℕ) (d : FileEntry) → position_from (bears name) j es ≡ Some (j + k) → held (files_of es) name ≡ Some (get_or es k d).bytes.items
+held-some_from : (name : List ℕ) (es : List FileEntry) (j k : ℕ) (d : FileEntry) → position_from (bears name) j es ≡ Some (j + k) → held (files_of es) name ≡ Some (get_or es k d).bytes
 held-some_from name [] j k d e = absurd cc
-held-some_from name (x ∷ es) j zero d e = elim (bears name x) as (λ b. cond b (Some j) (position_from (bears name) (j + 1) es) ≡ Some (j + 0) → cond b (Some x.bytes.items) (held (files_of es) name) ≡ Some x.bytes.items) [
+held-some_from name (x ∷ es) j zero d e = elim (bears name x) as (λ b. cond b (Some j) (position_from (bears name) (j + 1) es) ≡ Some (j + 0) → cond b (Some x.bytes) (held (files_of es) name) ≡ Some x.bytes) [
   | true ↦ λ e. refl
   | false ↦ λ e. let later : j + 1 ≤ j + 0 = position_from-le name es (j + 1) (j + 0) e in absurd (omega arith)
 ] e
-held-some_from name (x ∷ es) j (suc k) d e = elim (bears name x) as (λ b. cond b (Some j) (position_from (bears name) (j + 1) es) ≡ Some (j + suc k) → cond b (Some x.bytes.items) (held (files_of es) name) ≡ Some (get_or es k d).bytes.items) [
+held-some_from name (x ∷ es) j (suc k) d e = elim (bears name x) as (λ b. cond b (Some j) (position_from (bears name) (j + 1) es) ≡ Some (j + suc k) → cond b (Some x.bytes) (held (files_of es) name) ≡ Some (get_or es k d).bytes) [
   | true ↦ λ e. let same : j ≡ j + suc k = cc in absurd (omega arith)
   | false ↦ λ e. let sum : j + suc k ≡ (j + 1) + k = omega arith in held-some_from name es (j + 1) k d (e ∙ ap (λ (n : ℕ). Some n) sum)
 ] e
@@ -53,13 +53,13 @@ from_zero name es r e = sym (position_from-zero (bears name) es) ∙ sym e
 pub held-none : (name : List ℕ) (es : List FileEntry) → None ≡ position (bears name) es → held (files_of es) name ≡ None
 held-none name es e = held-none_from name es 0 (from_zero name es None e)
 
-pub held-some : (name : List ℕ) (es : List FileEntry) (i : ℕ) (d : FileEntry) → Some i ≡ position (bears name) es → held (files_of es) name ≡ Some (get_or es i d).bytes.items
+pub held-some : (name : List ℕ) (es : List FileEntry) (i : ℕ) (d : FileEntry) → Some i ≡ position (bears name) es → held (files_of es) name ≡ Some (get_or es i d).bytes
 held-some name es i d e = held-some_from name es 0 i d (from_zero name es (Some i) e ∙ ap (λ (n : ℕ). Some n) (omega arith))
 
 -- a file that is longer than the limit
-pub held-longer : (name : List ℕ) (es : List FileEntry) (i limit : ℕ) (at : FileEntry) → Some i ≡ position (bears name) es → at ≡ get_or es i at → limit < length at.bytes.items → IsSomeAnd (held (files_of es) name) (λ bytes. limit < length bytes)
-held-longer name es i limit at found is long = subst (λ (r : Option (List ℕ)). IsSomeAnd r (λ bytes. limit < length bytes)) (sym (held-some name es i at found ∙ ap (λ (e : FileEntry). Some e.bytes.items) (sym is))) long
+pub held-longer : (name : List ℕ) (es : List FileEntry) (i limit : ℕ) (at : FileEntry) → Some i ≡ position (bears name) es → at ≡ get_or es i at → limit < length at.bytes → IsSomeAnd (held (files_of es) name) (λ bytes. limit < length bytes)
+held-longer name es i limit at found is long = subst (λ (r : Option (List ℕ)). IsSomeAnd r (λ bytes. limit < length bytes)) (sym (held-some name es i at found ∙ ap (λ (e : FileEntry). Some e.bytes) (sym is))) long
 
 -- a file that was copied
-pub held-copied : (name : List ℕ) (es : List FileEntry) (i : ℕ) (at : FileEntry) (copy : List ℕ) → Some i ≡ position (bears name) es → at ≡ get_or es i at → copy ≡ at.bytes.items → held (files_of es) name ≡ Some copy
-held-copied name es i at copy found is same = held-some name es i at found ∙ ap (λ (e : FileEntry). Some e.bytes.items) (sym is) ∙ ap (λ (b : List ℕ). Some b) (sym same)
+pub held-copied : (name : List ℕ) (es : List FileEntry) (i : ℕ) (at : FileEntry) (copy : List ℕ) → Some i ≡ position (bears name) es → at ≡ get_or es i at → copy ≡ at.bytes → held (files_of es) name ≡ Some copy
+held-copied name es i at copy found is same = held-some name es i at found ∙ ap (λ (e : FileEntry). Some e.bytes) (sym is) ∙ ap (λ (b : List ℕ). Some b) (sym same)

@@ -30,30 +30,30 @@ SameBut-put name bytes (f ∷ fs) q apart = elim (bytes_eq f.0 name) as (λ b. b
   | false ↦ λ is. ap (λ (r : Option (List ℕ)). cond (bytes_eq f.0 q) (Some f.1) r) (SameBut-put name bytes fs q apart)
 ] refl
 
-files_of-set_from : (name : List ℕ) (es : List FileEntry) (j k : ℕ) (e d : FileEntry) → position_from (bears name) j es ≡ Some (j + k) → string_bytes e.name ≡ string_bytes (get_or es k d).name → files_of (set es k e) ≡ put name e.bytes.items (files_of es)
+files_of-set_from : (name : List ℕ) (es : List FileEntry) (j k : ℕ) (e d : FileEntry) → position_from (bears name) j es ≡ Some (j + k) → string_bytes e.name ≡ string_bytes (get_or es k d).name → files_of (set es k e) ≡ put name e.bytes (files_of es)
 files_of-set_from name [] j k e d at same = absurd cc
-files_of-set_from name (x ∷ es) j zero e d at same = elim (bears name x) as (λ b. cond b (Some j) (position_from (bears name) (j + 1) es) ≡ Some (j + 0) → (named e ∷ files_of es) ≡ cond b ((string_bytes x.name, e.bytes.items) ∷ files_of es) (named x ∷ put name e.bytes.items (files_of es))) [
-  | true ↦ λ a. ap (λ (n : List ℕ). (n, e.bytes.items) ∷ files_of es) same
+files_of-set_from name (x ∷ es) j zero e d at same = elim (bears name x) as (λ b. cond b (Some j) (position_from (bears name) (j + 1) es) ≡ Some (j + 0) → (named e ∷ files_of es) ≡ cond b ((string_bytes x.name, e.bytes) ∷ files_of es) (named x ∷ put name e.bytes (files_of es))) [
+  | true ↦ λ a. ap (λ (n : List ℕ). (n, e.bytes) ∷ files_of es) same
   | false ↦ λ a. let later : j + 1 ≤ j + 0 = position_from-le name es (j + 1) (j + 0) a in absurd (omega arith)
 ] at
-files_of-set_from name (x ∷ es) j (suc k) e d at same = elim (bears name x) as (λ b. cond b (Some j) (position_from (bears name) (j + 1) es) ≡ Some (j + suc k) → (named x ∷ files_of (set es k e)) ≡ cond b ((string_bytes x.name, e.bytes.items) ∷ files_of es) (named x ∷ put name e.bytes.items (files_of es))) [
+files_of-set_from name (x ∷ es) j (suc k) e d at same = elim (bears name x) as (λ b. cond b (Some j) (position_from (bears name) (j + 1) es) ≡ Some (j + suc k) → (named x ∷ files_of (set es k e)) ≡ cond b ((string_bytes x.name, e.bytes) ∷ files_of es) (named x ∷ put name e.bytes (files_of es))) [
   | true ↦ λ a. let equal : j ≡ j + suc k = cc in absurd (omega arith)
   | false ↦ λ a.
       let sum : j + suc k ≡ (j + 1) + k = omega arith in
       ap (λ (fs : Files). named x ∷ fs) (files_of-set_from name es (j + 1) k e d (a ∙ ap (λ (n : ℕ). Some n) sum) same)
 ] at
 
-files_of-append_from : (name : List ℕ) (es : List FileEntry) (j : ℕ) (e : FileEntry) → position_from (bears name) j es ≡ None → string_bytes e.name ≡ name → files_of (es ++ e ∷ []) ≡ put name e.bytes.items (files_of es)
-files_of-append_from name [] j e at is = ap (λ (n : List ℕ). (n, e.bytes.items) ∷ []) is
-files_of-append_from name (x ∷ es) j e at is = elim (bears name x) as (λ b. cond b (Some j) (position_from (bears name) (j + 1) es) ≡ None → (named x ∷ files_of (es ++ e ∷ [])) ≡ cond b ((string_bytes x.name, e.bytes.items) ∷ files_of es) (named x ∷ put name e.bytes.items (files_of es))) [
+files_of-append_from : (name : List ℕ) (es : List FileEntry) (j : ℕ) (e : FileEntry) → position_from (bears name) j es ≡ None → string_bytes e.name ≡ name → files_of (es ++ e ∷ []) ≡ put name e.bytes (files_of es)
+files_of-append_from name [] j e at is = ap (λ (n : List ℕ). (n, e.bytes) ∷ []) is
+files_of-append_from name (x ∷ es) j e at is = elim (bears name x) as (λ b. cond b (Some j) (position_from (bears name) (j + 1) es) ≡ None → (named x ∷ files_of (es ++ e ∷ [])) ≡ cond b ((string_bytes x.name, e.bytes) ∷ files_of es) (named x ∷ put name e.bytes (files_of es))) [
   | true ↦ λ a. absurd cc
   | false ↦ λ a. ap (λ (fs : Files). named x ∷ fs) (files_of-append_from name es (j + 1) e a is)
 ] at
 
 -- the entry at the place that was found is replaced by one of the same name
-pub files_of-set : (name : List ℕ) (es : List FileEntry) (i : ℕ) (e d : FileEntry) → Some i ≡ position (bears name) es → string_bytes e.name ≡ string_bytes (get_or es i d).name → files_of (set es i e) ≡ put name e.bytes.items (files_of es)
+pub files_of-set : (name : List ℕ) (es : List FileEntry) (i : ℕ) (e d : FileEntry) → Some i ≡ position (bears name) es → string_bytes e.name ≡ string_bytes (get_or es i d).name → files_of (set es i e) ≡ put name e.bytes (files_of es)
 files_of-set name es i e d at same = files_of-set_from name es 0 i e d (from_zero name es (Some i) at ∙ ap (λ (n : ℕ). Some n) (omega arith)) same
 
 -- no entry had the name, and one was appended
-pub files_of-append : (name : List ℕ) (es : List FileEntry) (e : FileEntry) → None ≡ position (bears name) es → string_bytes e.name ≡ name → files_of (es ++ e ∷ []) ≡ put name e.bytes.items (files_of es)
+pub files_of-append : (name : List ℕ) (es : List FileEntry) (e : FileEntry) → None ≡ position (bears name) es → string_bytes e.name ≡ name → files_of (es ++ e ∷ []) ≡ put name e.bytes (files_of es)
 files_of-append name es e at is = files_of-append_from name es 0 e (from_zero name es None at) is

@@ -6,7 +6,7 @@ use Rattle.ifl_outside.specs.Files.{Files}
 
 -- an entry's name and bytes
 abbrev pub named : FileEntry → List ℕ × List ℕ
-named e = (string_bytes e.name, e.bytes.items)
+named e = (string_bytes e.name, e.bytes)
 
 abbrev pub files_of : List FileEntry → Files
 files_of es = map named es

@@ -7,13 +7,14 @@ ghost use Rattle.ifl_outside.specs.Files.{held, put, SameBut};
 ghost use Rattle.ifl_outside.specs.Fetched.{IsFetch, IsWithin};
 
 use crate::host::Fetch;
+use ifl_base::Items;
 use std::alloc::{AllocError, Global};
 
 /// A file of a host in memory.
 #[derive(Drop)]
 pub struct FileEntry {
     pub name: String,
-    pub bytes: Vec<u8>,
+    pub bytes: Items<u8>,
 }
 
 /// Where the first entry of that name stands.
@@ -40,7 +41,8 @@ pub fn fetch_entry(
             if bytes.len() as u64 > limit {
                 Ok(Fetch::TooLong)
             } else {
-                Ok(Fetch::Bytes(Vec::from_slice(alloc, bytes)?))
+                let copy = Vec::from_slice(alloc, bytes.as_slice())?;
+                Ok(Fetch::Bytes(Items::from_vec(copy)))
             }
         }
     }
@@ -58,7 +60,7 @@ pub fn put_entry(
     ensures others { SameBut name.now (files_of files.old.items) (files_of files.new.items) }
     ensures err { OnErr result (files_of files.new.items ≡ files_of files.old.items) }
 {
-    let copy = Vec::from_slice(alloc, bytes)?;
+    let copy = Items::from_vec(Vec::from_slice(alloc, bytes)?);
     match find(files, name) {
         Some(i) => {
             files[i].bytes = copy;

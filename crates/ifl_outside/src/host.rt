@@ -5,13 +5,14 @@ ghost use Rattle.ifl_outside.specs.Causes.{HasCause};
 ghost use Rattle.ifl_outside.specs.Fetched.{IsFetch, IsWithin};
 
 use crate::fault::HostError;
+use ifl_base::Items;
 use std::alloc::Global;
 
 /// What a read finds.
 #[derive(Drop)]
 pub enum Fetch {
     /// The file's bytes, which the caller owns.
-    Bytes(Vec<u8>),
+    Bytes(Items<u8>),
     /// There is no such file.
     Absent,
     /// The file is longer than the limit.

@@ -4,6 +4,7 @@ ghost use Rattle.ifl_outside.specs.Fetched.{IsFetch, IsWithin};
 
 use crate::fault::HostError;
 use crate::host::{Fetch, Host};
+use ifl_base::Items;
 use std::alloc::Global;
 use std::fs::OpenFile;
 use std::io::{ErrorKind, Read, Write};
@@ -63,7 +64,7 @@ fn read_up_to<F: Read + OpenFile>(
     let mut piece = [0u8; PIECE];
     'pieces: for _ in 0..u64::MAX {
         match file.read(&mut piece) {
-            Ok(0) => return Ok(Some(Fetch::Bytes(bytes))),
+            Ok(0) => return Ok(Some(Fetch::Bytes(Items::from_vec(bytes)))),
             Ok(n) => {
                 if limit - (bytes.len() as u64) < n as u64 {
                     return Ok(Some(Fetch::TooLong));

@@ -1,4 +1,5 @@
 use super::*;
+use ifl_base::Items;
 use std::alloc::Global;
 use std::sync::Wait;
 use std::test::*;
@@ -7,7 +8,7 @@ use std::{fs, thread};
 fn entry(alloc: Global, name: &str, bytes: &[u8]) -> Result<FileEntry, Fail> {
     Ok(FileEntry {
         name: String::from_str(alloc, name)?,
-        bytes: Vec::from_slice(alloc, bytes)?,
+        bytes: Items::from_vec(Vec::from_slice(alloc, bytes)?),
     })
 }
 
