@@ -1,10 +1,39 @@
-ghost use Rattle.std.specs.Prelude.{◌≡◌, option_map};
+ghost use Rattle.std.specs.Prelude.{◌≡◌, ℕ, List, ◌∷◌, [], codes, option_map};
+ghost use Rattle.std.proofs.Common.{refl};
 ghost use Rattle.toml.specs.Data.{string};
-ghost use Rattle.ifl_conf.specs.Keys.{row, word};
+ghost use Rattle.ifl_conf.specs.Keys.{row, word, one_of};
 ghost use Rattle.ifl_conf.specs.Documents.{as_setting};
+ghost use Rattle.ifl_conf.specs.declared.keys.KeyName.{KeyName as Keyed};
+ghost use Rattle.ifl_conf.specs.declared.keys.KeyName.TheVariants as keyed;
 ghost use Rattle.ifl_conf.specs.Choices.{kind_text, start_text, policy_text, mode_text};
 
 use crate::keys::KeyName;
+
+/// A choice that a settings file writes as one of the words of a key.
+pub(crate) trait Choice: Copy {
+    /// The key.
+    ghost key: { Keyed };
+
+    /// The words of the key.
+    ghost words: { List (List ℕ) };
+
+    ghost kind: { (row key).kind ≡ one_of words };
+
+    /// How a choice is written.
+    ghost spelled: { Self → List ℕ };
+
+    /// The key that takes it.
+    fn key() -> KeyName
+        ensures { result ≡ key };
+
+    /// The choice where the key is left out.
+    fn standard() -> Self
+        ensures { word (spelled result) ≡ (row key).standard };
+
+    /// The choice that is written so.
+    fn named(text: &str) -> Option<Self>
+        ensures { option_map (λ c. word (spelled c)) result ≡ as_setting (row key).kind (string text.now) };
+}
 
 /// How the adapter tells what it has done.
 #[derive(Clone, Copy, Debug, PartialEq, Eq)]
@@ -44,11 +73,24 @@ pub enum StopMode {
     Flush,
 }
 
-impl AdapterKind {
-    /// The kind that a settings file writes so.
-    pub(crate) fn named(text: &str) -> Option<AdapterKind>
-        ensures { option_map (λ k. word (kind_text k)) result ≡ as_setting (row KeyName.AdapterKind).kind (string text.now) }
-    {
+impl Choice for AdapterKind {
+    ghost key = { keyed.AdapterKind };
+
+    ghost words = { codes "legacy" ∷ codes "writeback" ∷ codes "generation" ∷ [] };
+
+    ghost kind = { refl };
+
+    ghost spelled = { kind_text };
+
+    fn key() -> KeyName {
+        KeyName::AdapterKind
+    }
+
+    fn standard() -> AdapterKind {
+        AdapterKind::Writeback
+    }
+
+    fn named(text: &str) -> Option<AdapterKind> {
         match text {
             "legacy" => Some(AdapterKind::Legacy),
             "writeback" => Some(AdapterKind::Writeback),
@@ -58,11 +100,24 @@ impl AdapterKind {
     }
 }
 
-impl Start {
-    /// The start that a settings file writes so.
-    pub(crate) fn named(text: &str) -> Option<Start>
-        ensures { option_map (λ s. word (start_text s)) result ≡ as_setting (row KeyName.AdapterStart).kind (string text.now) }
-    {
+impl Choice for Start {
+    ghost key = { keyed.AdapterStart };
+
+    ghost words = { codes "at_once" ∷ codes "after_senders" ∷ [] };
+
+    ghost kind = { refl };
+
+    ghost spelled = { start_text };
+
+    fn key() -> KeyName {
+        KeyName::AdapterStart
+    }
+
+    fn standard() -> Start {
+        Start::AtOnce
+    }
+
+    fn named(text: &str) -> Option<Start> {
         match text {
             "at_once" => Some(Start::AtOnce),
             "after_senders" => Some(Start::AfterSenders),
@@ -71,11 +126,24 @@ impl Start {
     }
 }
 
-impl Policy {
-    /// The policy that a settings file writes so.
-    pub(crate) fn named(text: &str) -> Option<Policy>
-        ensures { option_map (λ p. word (policy_text p)) result ≡ as_setting (row KeyName.FramesPolicy).kind (string text.now) }
-    {
+impl Choice for Policy {
+    ghost key = { keyed.FramesPolicy };
+
+    ghost words = { codes "retry" ∷ codes "drop" ∷ [] };
+
+    ghost kind = { refl };
+
+    ghost spelled = { policy_text };
+
+    fn key() -> KeyName {
+        KeyName::FramesPolicy
+    }
+
+    fn standard() -> Policy {
+        Policy::Retry
+    }
+
+    fn named(text: &str) -> Option<Policy> {
         match text {
             "retry" => Some(Policy::Retry),
             "drop" => Some(Policy::Drop),
@@ -84,11 +152,24 @@ impl Policy {
     }
 }
 
-impl StopMode {
-    /// The mode that a settings file writes so.
-    pub(crate) fn named(text: &str) -> Option<StopMode>
-        ensures { option_map (λ m. word (mode_text m)) result ≡ as_setting (row KeyName.StopMode).kind (string text.now) }
-    {
+impl Choice for StopMode {
+    ghost key = { keyed.StopMode };
+
+    ghost words = { codes "drain" ∷ codes "flush" ∷ [] };
+
+    ghost kind = { refl };
+
+    ghost spelled = { mode_text };
+
+    fn key() -> KeyName {
+        KeyName::StopMode
+    }
+
+    fn standard() -> StopMode {
+        StopMode::Drain
+    }
+
+    fn named(text: &str) -> Option<StopMode> {
         match text {
             "drain" => Some(StopMode::Drain),
             "flush" => Some(StopMode::Flush),

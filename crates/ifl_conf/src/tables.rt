@@ -8,7 +8,7 @@ use crate::setting_fault::SettingFault;
 use crate::settings::{
     AdapterSettings, FramesSettings, PoolSettings, RingSettings, RxSettings, StopSettings,
 };
-use crate::values::{flag_in, kind_in, mode_in, number_in, policy_in, start_in};
+use crate::values::{choice_in, flag_in, number_in};
 use ifl_base::{CHAIN_MAX, CLUSTER_BYTES, FRAME_MIN, MAX_FRAME, RING_MAX, RING_MIN};
 use toml::Table;
 
@@ -30,12 +30,12 @@ pub(crate) fn ring_in(table: &Table) -> Result<RingSettings, SettingFault>
 pub(crate) fn adapter_in(table: &Table) -> Result<AdapterSettings, SettingFault>
     ensures { AreSetTo adapter_setting (table_view table.now) adapter_keys result }
 {
-    let kind = kind_in(table)?;
+    let kind = choice_in(table)?;
     let descriptors = number_in(table, KeyName::AdapterDescriptors, 8, 32_768, 1_024)?;
     let max_segs = number_in(table, KeyName::AdapterMaxSegs, 1, CHAIN_MAX, 32)?;
     let doorbell_every = number_in(table, KeyName::AdapterDoorbellEvery, 1, 32, 4)?;
     let turn_frames = number_in(table, KeyName::AdapterTurnFrames, 1, 65_535, 64)?;
-    let start = start_in(table)?;
+    let start = choice_in(table)?;
     let hang_after = number_in(table, KeyName::AdapterHangAfter, 0, 1_000_000, 0)?;
     let link_down_after = number_in(table, KeyName::AdapterLinkDownAfter, 0, 1_000_000, 0)?;
     let link_down_turns = number_in(table, KeyName::AdapterLinkDownTurns, 1, 65_535, 16)?;
@@ -63,7 +63,7 @@ pub(crate) fn frames_in(table: &Table) -> Result<FramesSettings, SettingFault>
         MAX_FRAME,
         MAX_FRAME,
     )?;
-    let policy = policy_in(table)?;
+    let policy = choice_in(table)?;
     Ok(FramesSettings { max_frame, policy })
 }
 
@@ -89,7 +89,7 @@ pub(crate) fn pool_in(table: &Table) -> Result<PoolSettings, SettingFault>
 pub(crate) fn stop_in(table: &Table) -> Result<StopSettings, SettingFault>
     ensures { AreSetTo stop_setting (table_view table.now) stop_keys result }
 {
-    let mode = mode_in(table)?;
+    let mode = choice_in(table)?;
     let after = number_in(table, KeyName::StopAfter, 0, 1_000_000, 0)?;
     Ok(StopSettings { mode, after })
 }

@@ -2,9 +2,8 @@ ghost use Rattle.std.specs.Prelude.{◌≡◌, ◌≤◌, option_map, IfOk, IfSo
 ghost use Rattle.toml.specs.View.{view, table_view};
 ghost use Rattle.ifl_conf.specs.Keys.{row, between, truth, number, flag, word};
 ghost use Rattle.ifl_conf.specs.Documents.{set_in, as_setting, IsSetTo};
-ghost use Rattle.ifl_conf.specs.Choices.{kind_text, start_text, policy_text, mode_text};
 
-use crate::choices::{AdapterKind, Policy, Start, StopMode};
+use crate::choices::Choice;
 use crate::document::written;
 use crate::keys::KeyName;
 use crate::served::{is_flag_served, is_number_served, is_word_served};
@@ -67,64 +66,16 @@ pub(crate) fn flag_in(table: &Table, key: KeyName, standard: bool) -> Result<boo
     }
 }
 
-/// What the document sets the kind of adapter to.
+/// What the document sets a key of words to.
 #[tactic(auto, unfolding(crate::specs::Documents::set_in))]
-pub(crate) fn kind_in(table: &Table) -> Result<AdapterKind, SettingFault>
-    ensures { IsSetTo (λ k. word (kind_text k)) (set_in (table_view table.now) KeyName.AdapterKind) KeyName.AdapterKind result }
+pub(crate) fn choice_in<C: Choice>(table: &Table) -> Result<C, SettingFault>
+    ensures { IsSetTo (λ c. word (C.spelled c)) (set_in (table_view table.now) C.key) C.key result }
 {
-    let fault = Err(SettingFault::Key(KeyName::AdapterKind));
-    match written(table, KeyName::AdapterKind) {
-        None => Ok(AdapterKind::Writeback),
-        Some(Value::String(text)) => match AdapterKind::named(text.as_str()) {
-            Some(kind) if is_word_served(KeyName::AdapterKind, text.as_str()) => Ok(kind),
-            _ => fault,
-        },
-        Some(_) => fault,
-    }
-}
-
-/// What the document sets the adapter's start to.
-#[tactic(auto, unfolding(crate::specs::Documents::set_in))]
-pub(crate) fn start_in(table: &Table) -> Result<Start, SettingFault>
-    ensures { IsSetTo (λ k. word (start_text k)) (set_in (table_view table.now) KeyName.AdapterStart) KeyName.AdapterStart result }
-{
-    let fault = Err(SettingFault::Key(KeyName::AdapterStart));
-    match written(table, KeyName::AdapterStart) {
-        None => Ok(Start::AtOnce),
-        Some(Value::String(text)) => match Start::named(text.as_str()) {
-            Some(start) if is_word_served(KeyName::AdapterStart, text.as_str()) => Ok(start),
-            _ => fault,
-        },
-        Some(_) => fault,
-    }
-}
-
-/// What the document sets the policy of senders to.
-#[tactic(auto, unfolding(crate::specs::Documents::set_in))]
-pub(crate) fn policy_in(table: &Table) -> Result<Policy, SettingFault>
-    ensures { IsSetTo (λ k. word (policy_text k)) (set_in (table_view table.now) KeyName.FramesPolicy) KeyName.FramesPolicy result }
-{
-    let fault = Err(SettingFault::Key(KeyName::FramesPolicy));
-    match written(table, KeyName::FramesPolicy) {
-        None => Ok(Policy::Retry),
-        Some(Value::String(text)) => match Policy::named(text.as_str()) {
-            Some(policy) if is_word_served(KeyName::FramesPolicy, text.as_str()) => Ok(policy),
-            _ => fault,
-        },
-        Some(_) => fault,
-    }
-}
-
-/// What the document sets the mode of the stop to.
-#[tactic(auto, unfolding(crate::specs::Documents::set_in))]
-pub(crate) fn mode_in(table: &Table) -> Result<StopMode, SettingFault>
-    ensures { IsSetTo (λ k. word (mode_text k)) (set_in (table_view table.now) KeyName.StopMode) KeyName.StopMode result }
-{
-    let fault = Err(SettingFault::Key(KeyName::StopMode));
-    match written(table, KeyName::StopMode) {
-        None => Ok(StopMode::Drain),
-        Some(Value::String(text)) => match StopMode::named(text.as_str()) {
-            Some(mode) if is_word_served(KeyName::StopMode, text.as_str()) => Ok(mode),
+    let fault = Err(SettingFault::Key(C::key()));
+    match written(table, C::key()) {
+        None => Ok(C::standard()),
+        Some(Value::String(text)) => match C::named(text.as_str()) {
+            Some(choice) if is_word_served(C::key(), text.as_str()) => Ok(choice),
             _ => fault,
         },
         Some(_) => fault,
