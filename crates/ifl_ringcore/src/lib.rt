@@ -20,6 +20,7 @@ mod schedule;
 mod sight;
 mod texts;
 mod trace;
+pub mod words;
 
 pub use counters::Counters;
 pub use event::Event;

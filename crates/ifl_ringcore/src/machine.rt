@@ -6,7 +6,7 @@ ghost use Rattle.ifl_ringcore.specs.State.{RingState, first_state};
 ghost use Rattle.ifl_ringcore.specs.Effects.{effect};
 ghost use Rattle.ifl_ringcore.specs.Events.{seat_of, step_of, items_of};
 ghost use Rattle.ifl_ringcore.specs.Table.{conditions, first_failing, sight_of};
-ghost use Rattle.ifl_ringcore.specs.Residues.{distance, sight_in, drain_by, known_from, unspent, is_held_at, ends_restart, stays_stalled, is_fruitful, rise_in, Fits, made_in, reserved_in, published_in, elected_in, raised_in, advanced_in, left_in, gone_on};
+ghost use Rattle.ifl_ringcore.specs.Residues.{sight_in, drain_by, known_from, unspent, is_held_at, ends_restart, stays_stalled, is_fruitful, rise_in, Fits, made_in, reserved_in, published_in, elected_in, raised_in, advanced_in, left_in, gone_on};
 ghost use Rattle.ifl_ringcore.specs.Kept.{Kept, IsSound, StandsFor, held_by, count_in};
 ghost use Rattle.ifl_ringcore.specs.Counters.{nothing_counted, one_if, plus, capped, rise};
 
@@ -15,6 +15,7 @@ use crate::event::Event;
 use crate::illegal::Illegal;
 use crate::kept::{Drain, Held};
 use crate::sight::Sight;
+use crate::words::distance;
 use ifl_base::{Flag, NoMemory, RingWord, advance, space};
 use std::alloc::Global;
 use std::marker::Model;
@@ -269,18 +270,6 @@ impl Machine {
             restarts: ends_restart(n, self.drain) as u64,
             ..Counters::NOTHING
         }
-    }
-}
-
-// How far it is from one place on to another.
-fn distance(size: u32, from: u16, to: u16) -> u32
-    requires { (from < size) × (to < size) × (size ≤ 65536) }
-    ensures { result ≡ distance size from to }
-{
-    if from <= to {
-        to as u32 - from as u32
-    } else {
-        size + to as u32 - from as u32
     }
 }
 

@@ -1,8 +1,9 @@
 ghost use Rattle.std.specs.Prelude.{◌≡◌, ◌||◌, nat_le, nat_eq};
-ghost use Rattle.ifl_ringcore.specs.Table.{conditions, first_failing, is_within, is_busy, is_left};
+ghost use Rattle.ifl_ringcore.specs.Table.{conditions, first_failing, is_within};
 
 use crate::event::Event;
 use crate::illegal::Illegal;
+use crate::words::{is_busy, is_left};
 use ifl_base::{Flag, MAX_BATCH};
 
 /// What the conditions of a seat's events look at.
@@ -165,16 +166,4 @@ fn is_within(n: u32, low: u32, high: u32) -> bool
     ensures { result ≡ is_within n low high }
 {
     low <= n && n <= high
-}
-
-fn is_busy(flag: Flag) -> bool
-    ensures { result ≡ is_busy flag }
-{
-    matches!(flag, Flag::Busy)
-}
-
-fn is_left(flag: Flag) -> bool
-    ensures { result ≡ is_left flag }
-{
-    matches!(flag, Flag::Stalled | Flag::Abdicated)
 }
