@@ -16,7 +16,7 @@ use Rattle.ifl_ring.specs.declared.answers.Enqueued.{Enqueued}
 use Rattle.ifl_ring.specs.declared.answers.Enqueued.TheVariants as enqueued
 use Rattle.ifl_ring.specs.declared.view.Known.{Known}
 use Rattle.ifl_ring.specs.Calls.{publishing, IsEnqueued}
-use Rattle.ifl_ring.specs.Tells.{Went, Looked, entry}
+use Rattle.ifl_ring.specs.Seats.{Went, Sees, entry}
 use Rattle.ifl_ring.proofs.Calls.{went_on_to}
 use Rattle.ifl_ring.proofs.Claiming.{publishing-append}
 use Rattle.ifl_reset.specs.Quiet.{AreKicks, IsQuiet, IsQuieted}
@@ -65,7 +65,7 @@ at_rest size st g f same =
     (f, sym (mod-same size st.published st.reserved (omega arith) c (omega arith) (sym same)), i)
 
 -- a look that found the ring at rest ends it
-pub quiet_ends : (kick : Meaning) (size : ℕ) (u v w : Known) (word : RingWord) → SoQuiet kick size u v → Went size v (entry v.number (pack word) Look ∷ []) w → Looked size v word w → word.flag ≡ Idle → word.head ≡ word.tail → IsQuieted kick size u w
+pub quiet_ends : (kick : Meaning) (size : ℕ) (u v w : Known) (word : RingWord) → SoQuiet kick size u v → Went size v (entry v.number (pack word) Look ∷ []) w → Sees size v word w → word.flag ≡ Idle → word.head ≡ word.tail → IsQuieted kick size u w
 quiet_ends kick size u v w word q g l idle same = let e : Entry = entry v.number (pack word) Look in record {
   steps = q.steps ++ e ∷ [];
   went = went_then size u v w q.steps (e ∷ []) q.went g;

@@ -25,8 +25,9 @@ use Rattle.ifl_base.specs.Word.{pack}
 use Rattle.ifl_base.specs.Space.{advanced}
 use Rattle.ifl_base.specs.Word.{IsWithin}
 use Rattle.ifl_ring.specs.Acts.{give_all, laid, items_in}
-use Rattle.ifl_ring.specs.Law.{Has, moved, Posted, Shelf, Lawful}
-use Rattle.ifl_ring.specs.Tells.{entry, Abdicates, abdicated}
+use Rattle.ifl_ring.specs.Seats.{Has, entry}
+use Rattle.ifl_ring.specs.Law.{moved, Posted, Shelf, Lawful}
+use Rattle.ifl_ring.specs.Tells.{Abdicates, abdicated}
 use Rattle.ifl_ringcore.proofs.Histories.{state_after-append}
 use Rattle.ifl_ringcore.proofs.Keeping.{cover-without}
 use Rattle.ifl_ring.proofs.Laid.{gave_carried, gave_valid, laid_items}

@@ -14,7 +14,7 @@ use Rattle.ifl_ringcore.specs.declared.history.Entry.{Entry}
 use Rattle.ifl_ringcore.specs.declared.history.Step.TheVariants.{Look}
 use Rattle.ifl_ringcore.specs.State.{reservation, role_of, first_state}
 use Rattle.ifl_ringcore.specs.History.{state_after}
-use Rattle.ifl_ring.specs.Law.{Has}
+use Rattle.ifl_ring.specs.Seats.{Has, entry}
 use Rattle.ifl_ringcore.proofs.Histories.{state_after-append}
 use Rattle.std.proofs.Common.{◌%◌}
 use Rattle.ifl_base.specs.declared.word.RingWord.{RingWord}
@@ -23,7 +23,7 @@ use Rattle.ifl_base.specs.Word.{IsWithin}
 use Rattle.ifl_ring.specs.Tells.{Abdicates, abdicated, HoldsAt}
 use Rattle.ifl_ring.proofs.Reserving.{word_is}
 use Rattle.ifl_ring.specs.Acts.{out_all, items_in}
-use Rattle.ifl_ring.specs.Tells.{entry, Looks, Reserves, Behinds, Same, nothing, place_of, looked, reserved, joined, drains, Electing, Handed, Holding, Leaves, Advances, left, went_forth, took_over, TakesOver}
+use Rattle.ifl_ring.specs.Tells.{SeesWord, Reserves, Behinds, Same, nothing, place_of, sees, reserved, goes_behind, drains, Electing, Handed, Holding, Leaves, Advances, left, went_forth, took_over, TakesOver}
 
 pub sized : (slots size : ℕ) → slots ≡ size + 1 → slots - 1 ≡ size
 sized slots size e = omega arith
@@ -37,11 +37,11 @@ module _ {I D O : Type 0} where
   )
 
   pub reserve_err : (slots size k old new x : ℕ) (m m' : Me (Place I D) (View O)) → slots ≡ size + 1 → m.1 ≡ [] → x ≢ old → reserved (step slots 0 old new (some (Told k))) m x m'
-      → Looks size m.0.known x m'.0.known × (m'.1 ≡ [])
-  reserve_err slots size k old new x m m' sl none_out miss t = let u = t.1 miss in (subst (λ (z : ℕ). Looks z m.0.known x m'.0.known) (sized slots size sl) u.2, u.1 ∙ none_out)
+      → SeesWord size m.0.known x m'.0.known × (m'.1 ≡ [])
+  reserve_err slots size k old new x m m' sl none_out miss t = let u = t.1 miss in (subst (λ (z : ℕ). SeesWord z m.0.known x m'.0.known) (sized slots size sl) u.2, u.1 ∙ none_out)
 
 module _ {I D O : Type 0} (meaning : I → Meaning) where
-  pub join_ok : (slots size old new x p : ℕ) (m m' : Me (Place I D) (View O)) → slots ≡ size + 1 → old ≡ p → x ≡ old → joined meaning (step slots 0 old new none) m x m'
+  pub join_ok : (slots size old new x p : ℕ) (m m' : Me (Place I D) (View O)) → slots ≡ size + 1 → old ≡ p → x ≡ old → goes_behind meaning (step slots 0 old new none) m x m'
       → Same m.0 m'.0 × Behinds size (map meaning (items_in m.1)) m.0.known p m'.0.known × (m'.1 ≡ [])
   join_ok slots size old new x p m m' sl is hit t = let u = t.0 hit in
       (u.0, subst (λ (z : ℕ × ℕ). Behinds z.0 (map meaning (items_in m.1)) m.0.known z.1 m'.0.known) (λ i. (sized slots size sl i, (hit ∙ is) i)) u.1, u.2)
@@ -52,19 +52,19 @@ module _ {I D O : Type 0} (meaning : I → Meaning) where
       (u.0, subst (λ (z : ℕ × ℕ). Abdicates z.0 (map meaning (items_in m.1)) m.0.known z.1 m'.0.known) (λ i. (sized slots size sl i, (hit ∙ is) i)) u.1, u.2)
 
   pub abdicate_err : (slots size old new x : ℕ) (m m' : Me (Place I D) (View O)) → slots ≡ size + 1 → x ≢ old → abdicated meaning (step slots 0 old new none) m x m'
-      → Looks size m.0.known x m'.0.known × (m'.1 ≡ m.1) × Same m.0 m'.0
-  abdicate_err slots size old new x m m' sl miss t = let u = t.1 miss in (subst (λ (z : ℕ). Looks z m.0.known x m'.0.known) (sized slots size sl) u.2, u.1, u.0)
+      → SeesWord size m.0.known x m'.0.known × (m'.1 ≡ m.1) × Same m.0 m'.0
+  abdicate_err slots size old new x m m' sl miss t = let u = t.1 miss in (subst (λ (z : ℕ). SeesWord z m.0.known x m'.0.known) (sized slots size sl) u.2, u.1, u.0)
 
-  pub join_err : (slots size old new x : ℕ) (m m' : Me (Place I D) (View O)) → slots ≡ size + 1 → x ≢ old → joined meaning (step slots 0 old new none) m x m'
-      → Looks size m.0.known x m'.0.known × (m'.1 ≡ m.1) × Same m.0 m'.0
-  join_err slots size old new x m m' sl miss t = let u = t.1 miss in (subst (λ (z : ℕ). Looks z m.0.known x m'.0.known) (sized slots size sl) u.2, u.1, u.0)
+  pub join_err : (slots size old new x : ℕ) (m m' : Me (Place I D) (View O)) → slots ≡ size + 1 → x ≢ old → goes_behind meaning (step slots 0 old new none) m x m'
+      → SeesWord size m.0.known x m'.0.known × (m'.1 ≡ m.1) × Same m.0 m'.0
+  join_err slots size old new x m m' sl miss t = let u = t.1 miss in (subst (λ (z : ℕ). SeesWord z m.0.known x m'.0.known) (sized slots size sl) u.2, u.1, u.0)
 
 module _ {I D O : Type 0} where
-  pub look_sized : (slots size x : ℕ) (m m' : Me (Place I D) (View O)) → slots ≡ size + 1 → looked (step slots 0 0 0 none) m x m' → Looks size m.0.known x m'.0.known × (m'.1 ≡ m.1) × Same m.0 m'.0
-  look_sized slots size x m m' sl t = (subst (λ (z : ℕ). Looks z m.0.known x m'.0.known) (sized slots size sl) t.2, t.1, t.0)
+  pub look_sized : (slots size x : ℕ) (m m' : Me (Place I D) (View O)) → slots ≡ size + 1 → sees (step slots 0 0 0 none) m x m' → SeesWord size m.0.known x m'.0.known × (m'.1 ≡ m.1) × Same m.0 m'.0
+  look_sized slots size x m m' sl t = (subst (λ (z : ℕ). SeesWord z m.0.known x m'.0.known) (sized slots size sl) t.2, t.1, t.0)
 
   -- a look leaves a seat with its reservation
-  pub held_still : (size k x : ℕ) (m m' : Me (Place I D) (View O)) (h : Holding size k m) → Looks size m.0.known x m'.0.known × (m'.1 ≡ m.1) × Same m.0 m'.0 → (h' : Holding size k m') × (h'.place ≡ h.place)
+  pub held_still : (size k x : ℕ) (m m' : Me (Place I D) (View O)) (h : Holding size k m) → SeesWord size m.0.known x m'.0.known × (m'.1 ≡ m.1) × Same m.0 m'.0 → (h' : Holding size k m') × (h'.place ≡ h.place)
   held_still size k x m m' h t = let made = t.0.0 in let seen : List Entry = (m.0.known.seen ++ made.between) ++ entry m.0.known.number x Look ∷ [] in
       let role' : role_of m.0.known.number (state_after first_state seen) ≡ (Some (reservation m.0.known.number h.place k), None) = ap (role_of m.0.known.number) (state_after-append first_state (m.0.known.seen ++ made.between) (entry m.0.known.number x Look)) ∙ made.role ∙ h.role in (
         record {
@@ -118,8 +118,8 @@ module _ {I D O : Type 0} where
       (subst (λ (z : ℕ × ℕ). Leaves z.0 f n m.0.known z.1 m'.0.known) (λ i. (sized slots size sl i, (hit ∙ is) i)) u.1, u.2, u.0)
 
   pub leave_err : (slots size old new x n : ℕ) (f : Flag) (m m' : Me (Place I D) (View O)) → slots ≡ size + 1 → x ≢ old → left (step slots 0 old new (some (Parting n f))) m x m'
-      → Looks size m.0.known x m'.0.known × (m'.1 ≡ m.1) × Same m.0 m'.0
-  leave_err slots size old new x n f m m' sl miss t = let u = t.1 miss in (subst (λ (z : ℕ). Looks z m.0.known x m'.0.known) (sized slots size sl) u.2, u.1, u.0)
+      → SeesWord size m.0.known x m'.0.known × (m'.1 ≡ m.1) × Same m.0 m'.0
+  leave_err slots size old new x n f m m' sl miss t = let u = t.1 miss in (subst (λ (z : ℕ). SeesWord z m.0.known x m'.0.known) (sized slots size sl) u.2, u.1, u.0)
 
 module _ {I D O : Type 0} (meaning : I → Meaning) (origin : D → O) (settled full : D → Type 0) (stands_for : D → List Meaning → Type 0) where
   pub go_on_ok : (slots size old new x p n : ℕ) (m m' : Me (Place I D) (View O)) → slots ≡ size + 1 → old ≡ p → x ≡ old → went_forth meaning origin settled full stands_for (step slots 0 old new (some (Told n))) m x m'
@@ -131,8 +131,8 @@ module _ {I D O : Type 0} (meaning : I → Meaning) (origin : D → O) (settled 
   )
 
   pub go_on_err : (slots size old new x n : ℕ) (m m' : Me (Place I D) (View O)) → slots ≡ size + 1 → x ≢ old → went_forth meaning origin settled full stands_for (step slots 0 old new (some (Told n))) m x m'
-      → Looks size m.0.known x m'.0.known × (m'.1 ≡ m.1) × Same m.0 m'.0
-  go_on_err slots size old new x n m m' sl miss t = let u = t.1 miss in (subst (λ (z : ℕ). Looks z m.0.known x m'.0.known) (sized slots size sl) u.2, u.1, u.0)
+      → SeesWord size m.0.known x m'.0.known × (m'.1 ≡ m.1) × Same m.0 m'.0
+  go_on_err slots size old new x n m m' sl miss t = let u = t.1 miss in (subst (λ (z : ℕ). SeesWord z m.0.known x m'.0.known) (sized slots size sl) u.2, u.1, u.0)
 
 module _ {I D O : Type 0} (meaning : I → Meaning) (origin : D → O) (settled full : D → Type 0) (stands_for : D → List Meaning → Type 0) where
   pub over_ok : (slots size old new x p n : ℕ) (m m' : Me (Place I D) (View O)) → slots ≡ size + 1 → old ≡ p → x ≡ old → took_over meaning origin settled full stands_for (step slots 0 old new (some (Told n))) m x m'
@@ -144,9 +144,9 @@ module _ {I D O : Type 0} (meaning : I → Meaning) (origin : D → O) (settled 
   )
 
   pub over_err : (slots size old new x n : ℕ) (m m' : Me (Place I D) (View O)) → slots ≡ size + 1 → x ≢ old → took_over meaning origin settled full stands_for (step slots 0 old new (some (Told n))) m x m'
-      → Looks size m.0.known x m'.0.known × (m'.1 ≡ m.1) × Same m.0 m'.0
-  over_err slots size old new x n m m' sl miss t = let u = t.1 miss in (subst (λ (z : ℕ). Looks z m.0.known x m'.0.known) (sized slots size sl) u.2, u.1, u.0)
+      → SeesWord size m.0.known x m'.0.known × (m'.1 ≡ m.1) × Same m.0 m'.0
+  over_err slots size old new x n m m' sl miss t = let u = t.1 miss in (subst (λ (z : ℕ). SeesWord z m.0.known x m'.0.known) (sized slots size sl) u.2, u.1, u.0)
 
   pub elect_err : (slots size old new x b : ℕ) (m m' : Me (Place I D) (View O)) → slots ≡ size + 1 → x ≢ old → drains meaning origin settled full stands_for (step slots 0 old new (some (Told b))) m x m'
-      → Looks size m.0.known x m'.0.known × (m'.1 ≡ m.1) × Same m.0 m'.0
-  elect_err slots size old new x b m m' sl miss t = let u = t.1 miss in (subst (λ (z : ℕ). Looks z m.0.known x m'.0.known) (sized slots size sl) u.2, u.1, u.0)
+      → SeesWord size m.0.known x m'.0.known × (m'.1 ≡ m.1) × Same m.0 m'.0
+  elect_err slots size old new x b m m' sl miss t = let u = t.1 miss in (subst (λ (z : ℕ). SeesWord z m.0.known x m'.0.known) (sized slots size sl) u.2, u.1, u.0)

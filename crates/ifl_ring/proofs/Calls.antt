@@ -5,9 +5,8 @@ use native.Mathlib.Decide.{ℕ_discrete}
 use Rattle.ifl_ringcore.specs.declared.history.Entry.{Entry}
 use Rattle.ifl_ring.specs.declared.view.Known.{Known}
 use Rattle.ifl_ringcore.specs.History.{own}
-use Rattle.ifl_ring.specs.Law.{has, Has, AreAmong, AreOf, IsWholeAmong, saw}
+use Rattle.ifl_ring.specs.Seats.{has, Has, AreAmong, AreOf, IsWholeAmong, saw, Moved, Made, of_all, events, Went}
 use Rattle.std.proofs.Common.{inl, inr}
-use Rattle.ifl_ring.specs.Tells.{Moved, Made, of_all, events, Went}
 use Rattle.ifl_ring.proofs.Closing.{append_none, own_append}
 
 by_test : (b : Bool) (x : Entry) (all xs ys : List Entry) → all ≡ xs ++ ys → cond b (x ∷ all) all ≡ cond b (x ∷ xs) xs ++ ys

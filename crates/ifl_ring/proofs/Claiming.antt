@@ -22,8 +22,9 @@ use Rattle.ifl_ring.specs.declared.place.Place.TheVariants.{Told}
 use Rattle.ifl_ring.specs.declared.view.Known.{Known}
 use Rattle.ifl_ring.specs.declared.view.View.{View}
 use Rattle.ifl_ring.specs.Calls.{AreLooks, AreOfDrain, EndsReserved, IsChecked, IsDrain, parting, publishes, publishing}
-use Rattle.ifl_ring.specs.Law.{Has, IsAtRest}
-use Rattle.ifl_ring.specs.Tells.{entry, last_word, Made, nothing, place_of, refused, Reserves, Same}
+use Rattle.ifl_ring.specs.Seats.{Has, entry, last_word, Made}
+use Rattle.ifl_ring.specs.Law.{IsAtRest}
+use Rattle.ifl_ring.specs.Tells.{nothing, place_of, refused, Reserves, Same}
 use Rattle.ifl_ring.proofs.Bridge.{place_head, sized}
 use Rattle.ifl_ring.proofs.Reserving.{word_is}
 use Rattle.ifl_ring.proofs.Rests.{rests}

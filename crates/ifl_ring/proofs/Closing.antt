@@ -1,7 +1,7 @@
 -- What the one whole seat knows of the ring.
-use Rattle.std.proofs.Common.{◌≡◌, ◌≢◌, ℕ, zero, suc, ◌+◌, ◌<◌, ◌≤◌, List, [], ◌∷◌, ◌++◌, length, sym, refl, ap, ◌∙◌, subst, inl, inr, ◌⊎◌, ⊎_elim, arith, append-nil, eq-eqb, ne_eqb, lt_of_not-le}
+use Rattle.std.proofs.Common.{◌≡◌, ℕ, zero, suc, ◌<◌, List, [], ◌∷◌, ◌++◌, length, sym, refl, ap, ◌∙◌, subst, ◌⊎◌, ⊎_elim, arith, append-nil, eq-eqb, ne_eqb, lt_of_not-le}
 use Rattle.std.specs.Prelude.{Option, Some, None}
-use mathlib.Core.Option.{some, some-injective, some-ne-none}
+use mathlib.Core.Option.{some, some-injective}
 use mathlib.Core.Logic.{dite}
 use native.Mathlib.Decide.{ℕ_discrete, dec_le}
 use lib.ListN.{get_elem?}
@@ -13,7 +13,8 @@ use Rattle.ifl_ring.specs.declared.place.Place.{Place}
 use Rattle.ifl_ring.specs.declared.place.Key.{Key}
 use Rattle.ifl_ringcore.specs.State.{Reservation, Consumer, Role, reservation_of, consumer_of, role_of, free, first_state}
 use Rattle.ifl_ringcore.specs.History.{state_after, own}
-use Rattle.ifl_ring.specs.Law.{Has, parts, Lawful, IsAtRest}
+use Rattle.ifl_ring.specs.Seats.{Has}
+use Rattle.ifl_ring.specs.Law.{Lawful, IsAtRest}
 use Rattle.ifl_ring.proofs.Wholes.{bare, others_spent, stood_by}
 use Rattle.ifl_base.specs.declared.limits.TheConstants.{PART}
 

@@ -26,7 +26,8 @@ use Rattle.ifl_base.specs.Word.{pack}
 use Rattle.ifl_base.specs.Space.{advanced}
 use Rattle.ifl_base.specs.Word.{IsWithin}
 use Rattle.ifl_ring.specs.Acts.{give_all, laid, items_in}
-use Rattle.ifl_ring.specs.Law.{Has, moved, Posted, Shelf, Lawful}
+use Rattle.ifl_ring.specs.Seats.{Has, entry}
+use Rattle.ifl_ring.specs.Law.{moved, Posted, Shelf, Lawful}
 use Rattle.ifl_ringcore.proofs.Histories.{state_after-append}
 use Rattle.ifl_ring.proofs.Slots.{apart}
 use Rattle.ifl_ring.proofs.Laid.{gave_carried, gave_valid, laid_items}
@@ -40,7 +41,7 @@ use Rattle.ifl_ring.specs.declared.place.Place.TheVariants.{Item, Post, Told}
 use Rattle.ifl_ringcore.specs.Effects.{elected}
 use Rattle.ifl_ringcore.specs.State.{consumer_of}
 use Rattle.ifl_ring.specs.Acts.{take_all, lying, value}
-use Rattle.ifl_ring.specs.Tells.{entry, Electing, Handed, drains}
+use Rattle.ifl_ring.specs.Tells.{Electing, Handed, drains}
 use Rattle.ifl_ringcore.proofs.Keeping.{cover-without, no_consumer}
 use Rattle.ifl_ring.proofs.Slots.{out_carried, out_long, out_else, out_here, out_valid}
 use Rattle.ifl_ring.proofs.Laid.{collect}

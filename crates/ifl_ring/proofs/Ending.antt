@@ -1,12 +1,12 @@
 -- The slots of a table that no seat shares any more are emptied, and what lies in them.
-use Rattle.std.proofs.Common.{◌≡◌, ℕ, zero, suc, ◌+◌, ◌-◌, ◌%◌, ◌<◌, ◌≤◌, ◌⊎◌, ⊎_elim, inl, inr, Bool, false, cond, List, [], ◌∷◌, ◌++◌, length, map, take, drop, set, get_or, sym, refl, ap, ◌∙◌, subst, arith, mod-lt, mod-eq_of_lt, length-append, length-take, length-drop, lt_of_not-le, eq-eqb, ne_eqb}
+use Rattle.std.proofs.Common.{◌≡◌, ℕ, zero, suc, ◌+◌, ◌-◌, ◌%◌, ◌<◌, ◌≤◌, ◌⊎◌, inr, Bool, false, cond, List, [], ◌∷◌, ◌++◌, length, map, take, drop, set, get_or, sym, refl, ap, ◌∙◌, subst, arith, mod-lt, mod-eq_of_lt, length-append, length-take, length-drop, lt_of_not-le}
 use Rattle.std.proofs.Math.Nat.{mod-add-mod, add-mod_left}
 use Rattle.std.specs.Prelude.{Option}
 use Rattle.std.specs.Global.{Box}
 use Rattle.std.specs.VecDeque.{deque_capacity}
 use mathlib.Core.Option.{some, some-injective, some-ne-none}
 use mathlib.Core.Logic.{dite}
-use native.Mathlib.Decide.{dec_le, ℕ_discrete}
+use native.Mathlib.Decide.{dec_le}
 use lib.ListN.{get_elem?}
 use Rattle.atomic_table.specs.Table.{State, Me, Final, Seen}
 use Rattle.ifl_base.specs.declared.limits.TheConstants.{PART}
@@ -27,7 +27,8 @@ use Rattle.ifl_ring.specs.declared.place.Place.TheVariants.{Item, Vacant, Post, 
 use Rattle.ifl_ring.specs.declared.view.View.{View}
 use Rattle.ifl_ring.specs.Acts.{item_in}
 use Rattle.ifl_ring.specs.Closed.{items_lying, IsEnded, IsClosed, IsHandedBack, left_after, released_after}
-use Rattle.ifl_ring.specs.Law.{AreAmong, has, Has, HasRoom, Posted, Lawful, IsAtRest, Rests}
+use Rattle.ifl_ring.specs.Seats.{AreAmong, has, Has}
+use Rattle.ifl_ring.specs.Law.{HasRoom, Posted, Lawful, IsAtRest, Rests}
 use Rattle.ifl_ring.proofs.Closing.{closes}
 use Rattle.ifl_ring.proofs.Reserving.{word_is}
 use Rattle.ifl_ring.proofs.Wholes.{among}

@@ -22,9 +22,9 @@ use Rattle.ifl_ring.specs.declared.published.Published.TheVariants.{Behind, Abdi
 use Rattle.ifl_ring.specs.declared.view.Known.{Known}
 use Rattle.ifl_ring.specs.declared.view.View.{View}
 use Rattle.ifl_ring.specs.Acts.{items_in, laid}
-use Rattle.ifl_ring.specs.Law.{Has}
+use Rattle.ifl_ring.specs.Seats.{Has, entry, Made}
 use Rattle.ifl_ring.specs.Publishing.{HasPlaces, IsPublished}
-use Rattle.ifl_ring.specs.Tells.{entry, Holding, HoldsAt, Made}
+use Rattle.ifl_ring.specs.Tells.{Holding, HoldsAt}
 use Rattle.ifl_ring.specs.Trails.{Trails}
 use Rattle.ifl_ring.proofs.Laid.{laid_items}
 use Rattle.ifl_ring.proofs.Publishing.{length_map}

@@ -3,9 +3,8 @@ use Rattle.std.proofs.Common.{Bool, true, false, cond, ◌||◌, ◌≡◌, ℕ,
 use Rattle.ifl_ringcore.specs.declared.history.Entry.{Entry}
 use Rattle.ifl_ringcore.specs.History.{own}
 use Rattle.ifl_ring.specs.declared.view.Known.{Known}
-use Rattle.ifl_ring.specs.Law.{has, Has, Begins, Complete}
+use Rattle.ifl_ring.specs.Seats.{has, Begins, Complete, of_all, events, Joined}
 use Rattle.ifl_ring.specs.Merges.{IsMerge}
-use Rattle.ifl_ring.specs.Tells.{of_all, events, Joined}
 use Rattle.ifl_ring.proofs.Calls.{of_all_append, none_of_all}
 use Rattle.ifl_ring.proofs.Closing.{append_none, own_append}
 use Rattle.ifl_ring.proofs.Tallying.{has-append}

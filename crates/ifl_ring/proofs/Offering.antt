@@ -14,7 +14,8 @@ use Rattle.ifl_ring.specs.declared.place.Outlet.{Outlet}
 use Rattle.ifl_ring.specs.declared.place.Place.TheVariants.{Item, Vacant, Post, Away}
 use Rattle.ifl_ringcore.specs.State.{role_of, first_state}
 use Rattle.ifl_ringcore.specs.History.{state_after}
-use Rattle.ifl_ring.specs.Law.{Has, HasRoom}
+use Rattle.ifl_ring.specs.Seats.{Has}
+use Rattle.ifl_ring.specs.Law.{HasRoom}
 use Rattle.ifl_base.specs.Space.{advanced}
 use Rattle.ifl_ring.specs.Acts.{out_all, laid, Gathered, InFront, IsPostFirst}
 use Rattle.ifl_ring.specs.Tells.{nothing, Parked}

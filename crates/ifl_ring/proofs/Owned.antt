@@ -1,5 +1,5 @@
 -- What lies in the slots, by the owners of their places.
-use Rattle.std.proofs.Common.{◌≡◌, ℕ, ◌+◌, ◌<◌, ◌≤◌, List, subst, arith}
+use Rattle.std.proofs.Common.{◌≡◌, ℕ, List, subst, arith}
 use Rattle.std.specs.Prelude.{Option, Some, None, take}
 use Rattle.ifl_base.specs.declared.word.Flag.{Flag}
 use mathlib.Core.Option.{some, none}
@@ -9,7 +9,6 @@ use Rattle.atomic_table.specs.Table.{State}
 use Rattle.ifl_ringcore.specs.declared.history.Meaning.{Meaning}
 use Rattle.ifl_ringcore.specs.declared.owner.Owner.{Owner}
 use Rattle.ifl_ringcore.specs.declared.owner.Owner.TheVariants as owner
-use Rattle.ifl_ringcore.specs.Invariant.{reach}
 use Rattle.ifl_ringcore.specs.Owners.{IsOwner}
 use Rattle.ifl_ringcore.specs.State.{Consumer}
 use Rattle.ifl_ringcore.proofs.Owning.{reach_is}

@@ -49,7 +49,8 @@ use Rattle.ifl_ring.specs.Acts.{laid}
 use Rattle.ifl_ring.specs.declared.place.Place.TheVariants.{Parting}
 use Rattle.ifl_ringcore.specs.Effects.{went_on}
 use Rattle.ifl_ring.specs.Acts.{take_all, value, lying}
-use Rattle.ifl_ring.specs.Tells.{entry, Advances, Leaves, Handed, Parked, MayPart, drain_in, left, went_forth}
+use Rattle.ifl_ring.specs.Seats.{entry}
+use Rattle.ifl_ring.specs.Tells.{Advances, Leaves, Handed, Parked, MayPart, drain_in, left, went_forth}
 use Rattle.ifl_ring.specs.Calls.{parting}
 use Rattle.ifl_ring.proofs.Slots.{out_carried, out_else, out_valid}
 use Rattle.ifl_ring.proofs.Laid.{collect, gave_carried, gave_valid}

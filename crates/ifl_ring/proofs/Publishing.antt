@@ -28,8 +28,9 @@ use Rattle.ifl_base.specs.Word.{pack}
 use Rattle.ifl_base.specs.Space.{advanced}
 use Rattle.ifl_base.specs.Word.{IsWithin}
 use Rattle.ifl_ring.specs.Acts.{give_all, laid, items_in}
-use Rattle.ifl_ring.specs.Law.{Has, moved, Posted, Shelf, Lawful}
-use Rattle.ifl_ring.specs.Tells.{entry, Behinds, joined}
+use Rattle.ifl_ring.specs.Seats.{Has, entry}
+use Rattle.ifl_ring.specs.Law.{moved, Posted, Shelf, Lawful}
+use Rattle.ifl_ring.specs.Tells.{Behinds, goes_behind}
 use Rattle.ifl_ringcore.proofs.Reservations.{reservation_of-within}
 use Rattle.ifl_ringcore.proofs.Histories.{state_after-append}
 use Rattle.ifl_ringcore.proofs.Keeping.{cover-without}
@@ -90,9 +91,9 @@ module _ {I D O : Type 0} (meaning : I → Meaning) (origin : D → O) (settled 
   pub behinds : (key : Key O) (slots id : ℕ) (me : Me (Place I D) (View O)) (old new a : ℕ) (ys : List I) (w : RingWord) (said : maybe.Option (Place I D)) → me.0.told ≡ [] → Has me.0.known.number me.0.known.stands
       → role_of me.0.known.number (state_after first_state me.0.known.seen) ≡ (Some (reservation me.0.known.number a (length ys)), None) → me.1 ≡ laid key.size a ys []
       → key.size ≤ 65536 → IsWithin key.size w → old ≡ pack w → w.tail ≡ a % key.size → w.flag ≡ Busy → new ≡ pack record w { tail = advanced key.size w.tail (length ys) }
-      → Allows (Law key) slots id me 0 (λ x. either (eqb x old) new x) (joined meaning (step slots 0 old new said) me)
+      → Allows (Law key) slots id me 0 (λ x. either (eqb x old) new x) (goes_behind meaning (step slots 0 old new said) me)
   behinds key slots id me old new a ys w said still has role lies small inside was tail busy more s l wide at _ =
-      let x : ℕ = get_or s.words 0 0 in let v : View O = me.0 in let size : ℕ = key.size in let st : TableStep (Place I D) = step slots 0 old new said in let tells = joined meaning st me x in
+      let x : ℕ = get_or s.words 0 0 in let v : View O = me.0 in let size : ℕ = key.size in let st : TableStep (Place I D) = step slots 0 old new said in let tells = goes_behind meaning st me x in
       let k : ℕ = length ys in let j : ℕ = v.known.number in
       exchanged x old new (Goes meaning origin settled full stands_for key s id me tells)
       (λ hit. let now : RingState = l.now in let is : x ≡ pack (ring_word size now) = word_of meaning origin settled full stands_for key s l in let g = l.good in

@@ -28,7 +28,8 @@ use Rattle.ifl_ring.proofs.Steps.{steps, size_is, made_now, Goes, word_of}
 use Rattle.ifl_ringcore.specs.declared.history.Step.TheVariants.{Refuse}
 use Rattle.std.proofs.Common.{◌^◌, ◌*◌}
 use Rattle.atomic_table.specs.Table.{keeps as keeps_act}
-use Rattle.ifl_ring.specs.Tells.{entry, Made, refused}
+use Rattle.ifl_ring.specs.Seats.{entry, Made}
+use Rattle.ifl_ring.specs.Tells.{refused}
 use Rattle.ifl_ring.proofs.Rests.{small_word}
 
 module _ {I D O : Type 0} (meaning : I → Meaning) (origin : D → O) (settled full : D → Type 0) (stands_for : D → List Meaning → Type 0) where

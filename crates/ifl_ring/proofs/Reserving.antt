@@ -28,7 +28,8 @@ use Rattle.ifl_base.specs.Space.{space, advanced}
 use Rattle.ifl_base.specs.Word.{IsWithin}
 use Rattle.ifl_ring.specs.Acts.{take_all, out_all}
 use Rattle.ifl_ring.specs.Law.{moved, Posted, Shelf, Lawful, IsAtRest}
-use Rattle.ifl_ring.specs.Tells.{entry, Same, start_of, place_of, Reserves, nothing, reserved}
+use Rattle.ifl_ring.specs.Seats.{entry}
+use Rattle.ifl_ring.specs.Tells.{Same, start_of, place_of, Reserves, nothing, reserved}
 use Rattle.ifl_ringcore.proofs.Reservations.{cover_le, reservation_of-append}
 use Rattle.ifl_ringcore.proofs.Histories.{state_after-append}
 use Rattle.ifl_ring.proofs.Slots.{apart, out_carried, out_long, out_else, out_here, out_valid}

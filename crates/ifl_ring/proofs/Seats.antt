@@ -18,8 +18,9 @@ use Rattle.ifl_ringcore.specs.State.{RingState, role_of, free, first_state}
 use Rattle.ifl_ringcore.specs.History.{state_after, own}
 use Rattle.ifl_ringcore.specs.Invariant.{RingInvariant}
 use Rattle.ifl_base.specs.declared.limits.TheConstants.{PART}
-use Rattle.ifl_ring.specs.Law.{has, Has, IsWholeAmong, Kept, Remembers, Sits, AreDisjoint, parts, moved, half, cut_left, cut_right, joined_known, past, both, gone, Lawful, IsAtRest}
-use Rattle.ifl_ring.specs.Tells.{Names, Recalls, Meets, Joined, christened, met}
+use Rattle.ifl_ring.specs.Seats.{has, Has, IsWholeAmong, AreDisjoint, half, joined_known, Names, Joined}
+use Rattle.ifl_ring.specs.Law.{AreKeptBy, Remembers, Sits, parts, moved, cut_left, cut_right, past, both, gone, Lawful, IsAtRest}
+use Rattle.ifl_ring.specs.Tells.{Recalls, Meets, christened, met}
 use Rattle.ifl_ring.proofs.Steps.{parts_set, each_set, in_range, size_is}
 use Rattle.ifl_ring.proofs.Wholes.{bare, part_le, whole_log}
 
@@ -71,7 +72,7 @@ rekept_to keeper id other k e = rw (eq-eqb (keeper k) other e)
 rekept_else : (keeper : ℕ → ℕ) (id other k : ℕ) → keeper k ≢ other → rekept keeper id other k ≡ keeper k
 rekept_else keeper id other k ne = rw (ne_eqb (keeper k) other ne)
 
-kept_still : (keeper : ℕ → ℕ) (id other j : ℕ) (stands : List ℕ) → j ≢ other → Kept keeper j stands → Kept (rekept keeper id other) j stands
+kept_still : (keeper : ℕ → ℕ) (id other j : ℕ) (stands : List ℕ) → j ≢ other → AreKeptBy keeper j stands → AreKeptBy (rekept keeper id other) j stands
 kept_still keeper id other j stands ne t k h = rekept_else keeper id other k (λ e. ne (sym (t k h) ∙ e)) ∙ t k h
 
 remembers_still : (log : List Entry) (keeper : ℕ → ℕ) (id other j : ℕ) (ps : List Past) → j ≢ other → Remembers log keeper j ps → Remembers log (rekept keeper id other) j ps
@@ -255,8 +256,8 @@ module _ {I D O : Type 0} (meaning : I → Meaning) (origin : D → O) (settled 
       let t = l.each id v at in let u = l.each other w at' in let kp : ℕ → ℕ = rekept l.keeper id other in
       let nm = t.named rest.named in let nw = u.named rest'.named in
       let free' : role_of other l.now ≡ free = nw.1 ∙ ap (λ (z : ℕ). role_of z (state_after first_state w.known.seen)) (sym nw.0) ∙ rest'.role in
-      let kept_v : Kept kp id v.known.stands = kept_still l.keeper id other id v.known.stands (λ e. apart (sym e)) t.kept in
-      let kept_w : Kept kp id w.known.stands = (λ k h. rekept_to l.keeper id other k (u.kept k h)) in
+      let kept_v : AreKeptBy kp id v.known.stands = kept_still l.keeper id other id v.known.stands (λ e. apart (sym e)) t.kept in
+      let kept_w : AreKeptBy kp id w.known.stands = (λ k h. rekept_to l.keeper id other k (u.kept k h)) in
       let disjoint : AreDisjoint v.known.stands w.known.stands = (λ k a c. absurd (apart (sym (u.kept k c) ∙ t.kept k a))) in
       let named' : Has v.known.number (v.known.stands ++ w.known.stands) = has_left v.known.number v.known.stands w.known.stands rest.named in
       let me : Sits key.origin l.log l.now kp id b = record {

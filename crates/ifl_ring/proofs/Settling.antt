@@ -26,9 +26,10 @@ use Rattle.ifl_ringcore.specs.History.{state_after}
 use Rattle.ifl_base.specs.Word.{pack}
 use Rattle.ifl_base.specs.Space.{advanced}
 use Rattle.ifl_base.specs.Word.{IsWithin}
-use Rattle.ifl_ring.specs.Law.{Has, IsAtRest}
+use Rattle.ifl_ring.specs.Seats.{Has, entry, Went}
+use Rattle.ifl_ring.specs.Law.{IsAtRest}
 use Rattle.ifl_ring.specs.Acts.{laid}
-use Rattle.ifl_ring.specs.Tells.{entry, Same, Looks, Leaves, Advances, Handed, Parked, MayPart, drain_in, Went}
+use Rattle.ifl_ring.specs.Tells.{Same, SeesWord, Leaves, Advances, Handed, Parked, MayPart, drain_in}
 use Rattle.ifl_ring.specs.Calls.{parting}
 use Rattle.ifl_ring.specs.Draining.{IsFresh, Drives, GoesOn, Moves, EndsRound, FlagAfter, IsOver}
 use Rattle.ifl_ring.specs.Calls.{IsTotal}
@@ -86,7 +87,7 @@ sees size n j st d g role = let mine = same_drain j st.consumer d (ap (λ (z : R
 
 module _ {I D O : Type 0} (meaning : I → Meaning) (origin : D → O) (settled full : D → Type 0) (stands_for : D → List Meaning → Type 0) where
   -- a look leaves a consumer as it is
-  pub parked_still : (size n x : ℕ) (m m' : Me (Place I D) (View O)) → Looks size m.0.known x m'.0.known → m'.1 ≡ m.1 → Same m.0 m'.0 → (p : Parked meaning origin settled full stands_for size n m)
+  pub parked_still : (size n x : ℕ) (m m' : Me (Place I D) (View O)) → SeesWord size m.0.known x m'.0.known → m'.1 ≡ m.1 → Same m.0 m'.0 → (p : Parked meaning origin settled full stands_for size n m)
       → (p' : Parked meaning origin settled full stands_for size n m') × (p'.consumer ≡ p.consumer) × (p'.outlet.value.drainer ≡ p.outlet.value.drainer) × (p'.items ≡ p.items)
   parked_still size n x m m' t out same p =
       let made = t.0 in let v : Known = m.0.known in let e : Entry = entry v.number x Look in let seen : List Entry = (v.seen ++ made.between) ++ e ∷ [] in
@@ -120,7 +121,7 @@ module _ {I D O : Type 0} (meaning : I → Meaning) (origin : D → O) (settled 
       )
 
   -- what the consumer saw at its look
-  pub parked_sees : (size n x : ℕ) (m m' : Me (Place I D) (View O)) → Looks size m.0.known x m'.0.known → (p : Parked meaning origin settled full stands_for size n m') → Sees size n (state_after first_state m'.0.known.seen) p.consumer
+  pub parked_sees : (size n x : ℕ) (m m' : Me (Place I D) (View O)) → SeesWord size m.0.known x m'.0.known → (p : Parked meaning origin settled full stands_for size n m') → Sees size n (state_after first_state m'.0.known.seen) p.consumer
   parked_sees size n x m m' t p = sees size n m'.0.known.number (state_after first_state m'.0.known.seen) p.consumer t.0.good p.role
 
   -- a consumer that left has nay part in the ring
@@ -177,7 +178,7 @@ module _ {I D O : Type 0} (meaning : I → Meaning) (origin : D → O) (settled 
         refl,
       )
 
-  pub looked_busy : (size n x : ℕ) (m m' : Me (Place I D) (View O)) (w : RingWord) → 0 < size → size ≤ 65536 → IsWithin size w → pack w ≡ x → Looks size m.0.known x m'.0.known → (p : Parked meaning origin settled full stands_for size n m') → (n < size) × (w.flag ≡ Busy)
+  pub looked_busy : (size n x : ℕ) (m m' : Me (Place I D) (View O)) (w : RingWord) → 0 < size → size ≤ 65536 → IsWithin size w → pack w ≡ x → SeesWord size m.0.known x m'.0.known → (p : Parked meaning origin settled full stands_for size n m') → (n < size) × (w.flag ≡ Busy)
   looked_busy size n x m m' w pos small within packs t p = let st : RingState = state_after first_state m'.0.known.seen in let s = parked_sees size n x m m' t p in
       let a = s.done in let b = s.high in let c = s.open_ in let d = s.near in let all = p.all in let lo = s.low in
       (omega arith, ap (λ (z : RingWord). z.flag) (sym (word_is size st w pos small within (sym (packs ∙ t.1)))) ∙ s.busy)

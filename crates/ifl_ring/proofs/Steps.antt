@@ -1,5 +1,5 @@
 -- One event at one step keeps the rule, where the slots are as the event leaves them.
-use Rattle.std.proofs.Common.{false, true, ◌≡◌, ◌≢◌, ℕ, ◌+◌, ◌<◌, List, [], ◌∷◌, ◌++◌, length, set, append_assoc, sym, refl, ap, ◌∙◌, subst, inl, inr, ⊎_elim, arith, length-set, append-nil, zero, suc, get_or, ◌-◌}
+use Rattle.std.proofs.Common.{◌≡◌, ◌≢◌, ℕ, ◌+◌, ◌<◌, List, [], ◌∷◌, ◌++◌, length, set, append_assoc, sym, refl, ap, ◌∙◌, subst, inl, inr, ⊎_elim, arith, length-set, append-nil, zero, suc, get_or, ◌-◌}
 use mathlib.Core.Option.{some, none, some-injective, some-ne-none}
 use mathlib.Core.Option as maybe
 use mathlib.Core.Logic.{dite}
@@ -8,7 +8,8 @@ use lib.ListN.{get_elem?}
 use Rattle.atomic_table.specs.Table.{State, Me, Step as TableStep, step, Allows, Act, Valid, stepped, carried_after}
 use Rattle.atomic_table.specs.Table.{keeps as keeps_act}
 use Rattle.ifl_ringcore.specs.declared.history.Step.TheVariants.{Look}
-use Rattle.ifl_ring.specs.Tells.{entry, Made, Looks, looked}
+use Rattle.ifl_ring.specs.Seats.{entry, Made, Has, AreAmong, Begins, Complete, saw}
+use Rattle.ifl_ring.specs.Tells.{SeesWord, sees}
 use Rattle.atomic_table.proofs.Lists.{at_set, set_here, set_else}
 use Rattle.ifl_ringcore.specs.declared.history.Meaning.{Meaning}
 use Rattle.ifl_ringcore.specs.declared.history.Entry.{Entry}
@@ -22,7 +23,7 @@ use Rattle.ifl_ringcore.specs.Effects.{effect}
 use Rattle.ifl_ringcore.specs.Conditions.{IsAllowed}
 use Rattle.ifl_ringcore.specs.Invariant.{RingInvariant}
 use Rattle.ifl_base.specs.Word.{pack}
-use Rattle.ifl_ring.specs.Law.{Has, AreAmong, Begins, Complete, Kept, Remembers, Sits, parts, saw, moved, Shelf, Lawful}
+use Rattle.ifl_ring.specs.Law.{AreKeptBy, Remembers, Sits, parts, moved, Shelf, Lawful}
 use Rattle.ifl_ringcore.proofs.Histories.{state_after-append, legal-append, own-append_other}
 use Rattle.ifl_ringcore.proofs.Keeping.{invariant-effect, role_of-effect}
 use Rattle.ifl_ring.proofs.Wholes.{bare, whole_log}
@@ -30,7 +31,7 @@ use Rattle.ifl_ring.proofs.Wholes.{bare, whole_log}
 pub begins_more : (log seen : List Entry) (e : Entry) → Begins log seen → Begins (log ++ e ∷ []) seen
 begins_more log seen e b = (b.0 ++ e ∷ [], sym (append_assoc seen b.0 (e ∷ [])) ∙ ap (λ (z : List Entry). z ++ e ∷ []) b.1)
 
-complete_more : (log : List Entry) (keeper : ℕ → ℕ) (id : ℕ) (stands : List ℕ) (seen : List Entry) (e : Entry) → keeper e.seat ≢ id → Kept keeper id stands → Complete log stands seen → Complete (log ++ e ∷ []) stands seen
+complete_more : (log : List Entry) (keeper : ℕ → ℕ) (id : ℕ) (stands : List ℕ) (seen : List Entry) (e : Entry) → keeper e.seat ≢ id → AreKeptBy keeper id stands → Complete log stands seen → Complete (log ++ e ∷ []) stands seen
 complete_more log keeper id stands seen e ne kept c k has = own-append_other k log e (λ is. ne (ap keeper is ∙ kept k has)) ∙ c k has
 
 remembers_more : (log : List Entry) (keeper : ℕ → ℕ) (id : ℕ) (ps : List Past) (e : Entry) → keeper e.seat ≢ id → Remembers log keeper id ps → Remembers (log ++ e ∷ []) keeper id ps
@@ -157,7 +158,7 @@ module _ {I D O : Type 0} (meaning : I → Meaning) (origin : D → O) (settled 
   word_of key s l = ap (λ (z : List ℕ). get_or z 0 0) l.word
 
   pub look_at : (key : Key O) (s : State (Place I D) (View O)) (l : Law key s) (slots id : ℕ) (me : Me (Place I D) (View O)) (st : TableStep (Place I D)) → me.0.told ≡ [] → Has me.0.known.number me.0.known.stands → length s.homes ≡ slots → get_elem? s.views id ≡ some me.0 → st.slots ≡ slots
-      → Goes key s id me (looked st me (get_or s.words 0 0)) (get_or s.words 0 0)
+      → Goes key s id me (sees st me (get_or s.words 0 0)) (get_or s.words 0 0)
   look_at key s l slots id me st still has wide at sl = let x : ℕ = get_or s.words 0 0 in let v : View O = me.0 in let is : x ≡ pack (ring_word key.size l.now) = word_of key s l in
       let e : Entry = entry v.known.number x Look in let w : View O = moved (l.log ++ e ∷ []) v in let m = made key s l id v e at still has refl is tt in
       let end : state_after first_state (l.log ++ e ∷ []) ≡ l.now = state_after-append first_state l.log e ∙ l.is in (
@@ -165,8 +166,8 @@ module _ {I D O : Type 0} (meaning : I → Meaning) (origin : D → O) (settled 
         keeps_act,
         tt,
         steps key s l id v e s.homes x at has refl is tt is l.shelf,
-        ((refl, refl), refl, subst (λ (z : ℕ). Looks z v.known x w.known) (size_is key s l slots wide ∙ ap (λ (z : ℕ). z - 1) (sym sl)) (m, is ∙ ap (λ (z : RingState). pack (ring_word key.size z)) (sym end))),
+        ((refl, refl), refl, subst (λ (z : ℕ). SeesWord z v.known x w.known) (size_is key s l slots wide ∙ ap (λ (z : ℕ). z - 1) (sym sl)) (m, is ∙ ap (λ (z : RingState). pack (ring_word key.size z)) (sym end))),
       )
 
-  pub looks : (key : Key O) (slots id : ℕ) (me : Me (Place I D) (View O)) → me.0.told ≡ [] → Has me.0.known.number me.0.known.stands → Allows (Law key) slots id me 0 (λ n. n) (looked (step slots 0 0 0 none) me)
+  pub looks : (key : Key O) (slots id : ℕ) (me : Me (Place I D) (View O)) → me.0.told ≡ [] → Has me.0.known.number me.0.known.stands → Allows (Law key) slots id me 0 (λ n. n) (sees (step slots 0 0 0 none) me)
   looks key slots id me still has s l wide at _ = look_at key s l slots id me (step slots 0 0 0 none) still has wide at refl

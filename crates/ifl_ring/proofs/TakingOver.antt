@@ -35,7 +35,8 @@ use Rattle.ifl_ring.specs.declared.place.Place.TheVariants.{Item, Post, Told}
 use Rattle.ifl_ringcore.specs.Effects.{elected}
 use Rattle.ifl_ringcore.specs.State.{consumer_of}
 use Rattle.ifl_ring.specs.Acts.{take_all, lying, value}
-use Rattle.ifl_ring.specs.Tells.{entry, TakesOver, Handed, took_over}
+use Rattle.ifl_ring.specs.Seats.{entry}
+use Rattle.ifl_ring.specs.Tells.{TakesOver, Handed, took_over}
 use Rattle.ifl_ringcore.proofs.Keeping.{no_consumer}
 use Rattle.ifl_ring.proofs.Slots.{out_carried, out_else, out_valid}
 use Rattle.ifl_ring.proofs.Laid.{collect}

@@ -8,9 +8,8 @@ use Rattle.ifl_ringcore.specs.History.{own}
 use Rattle.ifl_ringcore.specs.State.{RingState, first_state}
 use Rattle.ifl_ringcore.proofs.Counting.{same-counters, plus-nothing}
 use Rattle.ifl_ring.specs.declared.view.Known.{Known}
-use Rattle.ifl_ring.specs.Law.{has, Has, Begins, Complete}
+use Rattle.ifl_ring.specs.Seats.{has, Has, Begins, Complete, entry, Joined, Sees, Names}
 use Rattle.ifl_ring.specs.Tally.{tally_of, TallyRises}
-use Rattle.ifl_ring.specs.Tells.{entry, Joined, Looked, Names}
 use Rattle.ifl_base.specs.Word.{pack}
 use Rattle.ifl_base.specs.declared.word.RingWord.{RingWord}
 use Rattle.ifl_ringcore.specs.declared.history.Step.TheVariants.{Look}
@@ -78,5 +77,5 @@ pub capped-both : (a b : Counters) → capped (plus (capped a) (capped b)) ≡ c
 capped-both a b = same-counters (capped (plus (capped a) (capped b))) (capped (plus a b)) (omega arith) (omega arith) (omega arith) (omega arith) (omega arith) (omega arith)
 
 -- a look counts nothing
-pub tally-looked : (size : ℕ) (tally : Counters) (v : Known) (word : RingWord) (w : Known) → Has v.number v.stands → tally ≡ capped (tally_of v) → Looked size v word w → tally ≡ capped (tally_of w)
+pub tally-looked : (size : ℕ) (tally : Counters) (v : Known) (word : RingWord) (w : Known) → Has v.number v.stands → tally ≡ capped (tally_of v) → Sees size v word w → tally ≡ capped (tally_of w)
 tally-looked size tally v word w mine is look = is ∙ ap capped (sym ((trail-made size v (entry v.number (pack word) Look) w mine look.0).1 ∙ plus-nothing (tally_of v)))

@@ -13,9 +13,9 @@ use Rattle.ifl_ringcore.specs.State.{RingState, Consumer, Role, role_of, first_s
 use Rattle.ifl_ringcore.proofs.Counting.{plus-assoc, plus-nothing, nothing-plus, counters_among-append}
 use Rattle.ifl_ring.specs.declared.view.Known.{Known}
 use Rattle.ifl_ring.specs.Calls.{AreLooks, AreOfDrain, IsDrain, IsTotal, parting, released_by, released_in}
-use Rattle.ifl_ring.specs.Law.{has, Has}
+use Rattle.ifl_ring.specs.Seats.{has, Has, Made, entry}
 use Rattle.ifl_ring.specs.Tally.{tally_of, drain_rise}
-use Rattle.ifl_ring.specs.Tells.{Advances, Leaves, Made, entry}
+use Rattle.ifl_ring.specs.Tells.{Advances, Leaves}
 use Rattle.ifl_ring.specs.Trails.{IsLived, IsRelease, Trails}
 use Rattle.ifl_ring.proofs.Calls.{head_own, made_went, tail_own, went_on_to}
 use Rattle.ifl_ring.proofs.Closing.{append_none, own_append}

@@ -1,5 +1,5 @@
 -- A seat with all parts: no other has one, and it stands for all numbers.
-use Rattle.std.proofs.Common.{false, true, ◌≡◌, ◌≢◌, ℕ, zero, suc, ◌+◌, ◌<◌, ◌≤◌, List, [], ◌∷◌, length, sym, refl, ap, ◌∙◌, subst, inl, inr, ◌⊎◌, ⊎_elim, arith, cond, eq-eqb, ne_eqb, lt_of_not-le}
+use Rattle.std.proofs.Common.{false, true, ◌≡◌, ◌≢◌, ℕ, zero, suc, ◌+◌, ◌≤◌, List, [], ◌∷◌, length, sym, refl, ap, ◌∙◌, subst, inl, inr, ◌⊎◌, ⊎_elim, arith, eq-eqb, ne_eqb, lt_of_not-le}
 use mathlib.Core.Option.{some, some-injective, some-ne-none}
 use mathlib.Core.Logic.{dite}
 use native.Mathlib.Decide.{ℕ_discrete, dec_le}
@@ -12,7 +12,8 @@ use Rattle.ifl_ringcore.specs.History.{own}
 use Rattle.ifl_ring.specs.declared.place.Key.{Key}
 use Rattle.ifl_ring.specs.declared.place.Place.{Place}
 use Rattle.ifl_ring.specs.declared.view.View.{View}
-use Rattle.ifl_ring.specs.Law.{Has, AreAmong, IsWholeAmong, parts, Lawful}
+use Rattle.ifl_ring.specs.Seats.{Has, AreAmong, IsWholeAmong}
+use Rattle.ifl_ring.specs.Law.{parts, Lawful}
 
 pub bare : {A : Type 0} (k : ℕ) (xs : List ℕ) → xs ≡ [] → Has k xs → A
 bare k [] h t = absurd (let f : false ≡ true = t in cc)

@@ -13,7 +13,8 @@ use Rattle.ifl_ring.specs.declared.place.Outlet.{Outlet}
 use Rattle.ifl_ring.specs.declared.place.Place.TheVariants.{Post, Away}
 use Rattle.ifl_ringcore.specs.State.{Consumer, role_of, first_state}
 use Rattle.ifl_ringcore.specs.History.{state_after}
-use Rattle.ifl_ring.specs.Law.{Has, HasRoom}
+use Rattle.ifl_ring.specs.Seats.{Has}
+use Rattle.ifl_ring.specs.Law.{HasRoom}
 use Rattle.ifl_ring.specs.Acts.{out_all, laid}
 use Rattle.ifl_ring.specs.Tells.{nothing}
 use Rattle.ifl_base.specs.declared.word.RingWord.{RingWord}

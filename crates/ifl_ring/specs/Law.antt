@@ -1,5 +1,5 @@
 -- The rule of the ring's table: one legal history, and what lies in the slots.
-use Rattle.std.specs.Prelude.{◌-◌, ◌/◌, Bool, true, false, eqb, ◌||◌, ◌≡◌, ℕ, ◌+◌, ◌%◌, ◌<◌, ◌≤◌, List, [], ◌∷◌, ◌++◌, length, take, Option, Some, None, ◌⊎◌}
+use Rattle.std.specs.Prelude.{◌≡◌, ℕ, ◌+◌, ◌%◌, ◌<◌, ◌≤◌, List, [], ◌∷◌, length, take, Option, Some, None, ◌⊎◌}
 use mathlib.Core.Option.{some, none}
 use mathlib.Core.Option as maybe
 use lib.ListN.{get_elem?}
@@ -25,49 +25,18 @@ use Rattle.ifl_ringcore.specs.History.{state_after, IsLegalHistory, own}
 use Rattle.ifl_ringcore.specs.Invariant.{RingInvariant, reach}
 use Rattle.ifl_base.specs.declared.limits.TheConstants.{PART}
 use Rattle.ifl_base.specs.Word.{pack}
+use Rattle.ifl_ring.specs.Seats.{Has, Begins, Complete, AreDisjoint, saw, first_known, left_known, right_known, joined_known}
 
 -- what the rule reads of what the table was told
 abbrev pub key_of : {D O : Type 0} → (D → O) → Sheet D → Key O
 key_of origin k = record { size = k.size; origin = origin k.drainer.value }
 
-abbrev pub has : ℕ → List ℕ → Bool
-has k [] = false
-has k (x ∷ xs) = eqb x k || has k xs
-
-abbrev pub Has : ℕ → List ℕ → Type 0
-Has k xs = has k xs ≡ true
-
--- each entry bears one of these numbers
-abbrev pub AreAmong : List ℕ → List Entry → Type 0
-AreAmong stands [] = Unit {0}
-AreAmong stands (e ∷ es) = Has e.seat stands × AreAmong stands es
-
--- each entry bears this number
-abbrev pub AreOf : ℕ → List Entry → Type 0
-AreOf number [] = Unit {0}
-AreOf number (e ∷ es) = (e.seat ≡ number) × AreOf number es
-
--- a seat with all parts stands for the numbers of all entries
-abbrev pub IsWholeAmong : Known → List Entry → Type 0
-IsWholeAmong v es = v.part ≡ PART → AreAmong v.stands es
-
-abbrev pub Begins : List Entry → List Entry → Type 0
-Begins log seen = (rest : List Entry) × (seen ++ rest ≡ log)
-
--- a history that was seen has all entries of the numbers that stand with it
-abbrev pub Complete : List Entry → List ℕ → List Entry → Type 0
-Complete log stands seen = (k : ℕ) → Has k stands → own k log ≡ own k seen
-
-abbrev pub Kept : (ℕ → ℕ) → ℕ → List ℕ → Type 0
-Kept keeper id stands = (k : ℕ) → Has k stands → keeper k ≡ id
+abbrev pub AreKeptBy : (ℕ → ℕ) → ℕ → List ℕ → Type 0
+AreKeptBy keeper id stands = (k : ℕ) → Has k stands → keeper k ≡ id
 
 abbrev pub Remembers : List Entry → (ℕ → ℕ) → ℕ → List Past → Type 0
 Remembers log keeper id [] = Unit {0}
-Remembers log keeper id (x ∷ xs) = Begins log x.seen × Complete log x.stands x.seen × Kept keeper id x.stands × Remembers log keeper id xs
-
--- no number is in both
-abbrev pub AreDisjoint : List ℕ → List ℕ → Type 0
-AreDisjoint xs ys = (k : ℕ) → Has k xs → Has k ys → ⊥
+Remembers log keeper id (x ∷ xs) = Begins log x.seen × Complete log x.stands x.seen × AreKeptBy keeper id x.stands × Remembers log keeper id xs
 
 abbrev pub SharesNone : List ℕ → List Past → Type 0
 SharesNone stands [] = Unit {0}
@@ -83,7 +52,7 @@ pub record Sits {O : Type 0} (o : O) (log : List Entry) (now : RingState) (keepe
   pub seen : Begins log v.known.seen
   pub complete : v.told ≡ [] → Complete log v.known.stands v.known.seen
   pub rooted : 0 < v.known.part → keeper id ≡ id
-  pub kept : Kept keeper id v.known.stands
+  pub kept : AreKeptBy keeper id v.known.stands
   pub named : Has v.known.number v.known.stands → (v.known.number ≡ id) × (role_of id now ≡ role_of id (state_after first_state v.known.seen))
   pub unnamed : v.known.stands ≡ [] → role_of id now ≡ free
   pub silent : 0 < v.known.part → v.known.stands ≡ [] → own id log ≡ []
@@ -91,10 +60,6 @@ pub record Sits {O : Type 0} (o : O) (log : List Entry) (now : RingState) (keepe
   pub born : 0 < v.known.part → v.origin ≡ Some o
   pub told : Remembers log keeper id v.told
   pub apart : AreApart v.told
-
--- the seat has seen this history
-abbrev pub saw : List Entry → Known → Known
-saw log v = record v { seen = log }
 
 abbrev pub moved : {O : Type 0} → List Entry → View O → View O
 moved log v = record { known = saw log v.known; told = []; origin = v.origin }
@@ -136,10 +101,6 @@ module _ {I D O : Type 0} (meaning : I → Meaning) (origin : D → O) (settled 
     pub stood : (k : ℕ) → k < length s.views → (own k log ≡ []) ⊎ ((v : View O) × (get_elem? s.views (keeper k) ≡ some v) × Has k v.known.stands)
     pub all_parts : parts s.views ≡ PART
 
--- the seat with which a ring is made
-abbrev pub first_known : Known
-first_known = record { number = 0; part = PART; stands = 0 ∷ []; seen = [] }
-
 abbrev pub first_view : {O : Type 0} → O → View O
 first_view o = record { known = first_known; told = []; origin = Some o }
 
@@ -152,24 +113,11 @@ pub record IsAtRest (v : Known) : Type 0 where
 abbrev pub Rests : {S O : Type 0} → Me S (View O) → Type 0
 Rests m = IsAtRest m.0.known × (m.0.told ≡ []) × (m.1 ≡ [])
 
--- how a view is cut in two: half of the part goes to the new seat, which has no number yet
-abbrev pub half : ℕ → ℕ
-half n = n / 2
-
-abbrev pub left_known : Known → Known
-left_known v = record v { part = v.part - half v.part }
-
-abbrev pub right_known : Known → Known
-right_known v = record { number = 0; part = half v.part; stands = []; seen = v.seen }
-
 abbrev pub cut_left : {O : Type 0} → View O → View O
 cut_left v = record v { known = left_known v.known }
 
 abbrev pub cut_right : {O : Type 0} → View O → View O
 cut_right v = record { known = right_known v.known; told = []; origin = v.origin }
-
-abbrev pub joined_known : Known → Known → Known
-joined_known v w = record v { part = v.part + w.part; stands = v.stands ++ w.stands }
 
 abbrev pub past : {O : Type 0} → View O → Past
 past v = record { stands = v.known.stands; seen = v.known.seen }

@@ -1,5 +1,6 @@
 pub mod Acts
 pub mod Words
+pub mod Seats
 pub mod Law
 pub mod Tells
 pub mod Draining

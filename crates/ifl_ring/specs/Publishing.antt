@@ -18,7 +18,8 @@ use Rattle.ifl_ring.specs.declared.view.Known.{Known}
 use Rattle.ifl_ring.specs.declared.view.View.{View}
 use Rattle.ifl_ring.specs.Acts.{out_all}
 use Rattle.ifl_ring.specs.Calls.{Finds}
-use Rattle.ifl_ring.specs.Law.{Has, Rests}
+use Rattle.ifl_ring.specs.Seats.{Has}
+use Rattle.ifl_ring.specs.Law.{Rests}
 use Rattle.ifl_ring.specs.Draining.{Drives, IsFresh}
 use Rattle.ifl_ring.specs.Tells.{nothing}
 use Rattle.ifl_ring.specs.Trails.{Trails}

@@ -6,7 +6,7 @@ use Rattle.ifl_ring.specs.declared.answers.RingFault.TheVariants.{BadSize, Memor
 use Rattle.ifl_ring.specs.declared.view.Known.{Known}
 
 -- which ring it is, how many places it has, and with what its drainer was made
-pub record RingState (O : Type 0) : Type 0 where
+pub record RingSeen (O : Type 0) : Type 0 where
   pub table : TableId
   pub size : ℕ
   pub origin : O

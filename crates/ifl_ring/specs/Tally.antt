@@ -6,7 +6,7 @@ use Rattle.ifl_ringcore.specs.declared.counters.Counters.{Counters}
 use Rattle.ifl_ringcore.specs.Counters.{capped, nothing_counted, plus, one_if, is_stalled, counters_among}
 use Rattle.ifl_ringcore.specs.State.{first_state}
 use Rattle.ifl_ring.specs.declared.view.Known.{Known}
-use Rattle.ifl_ring.specs.Law.{has}
+use Rattle.ifl_ring.specs.Seats.{has}
 
 -- what the entries that bear one of the seat's numbers count
 abbrev pub tally_of : Known → Counters

@@ -1,7 +1,6 @@
 -- What each step on the word tells its seat.
-use Rattle.std.specs.Prelude.{◌≡◌, ◌≢◌, ℕ, ◌+◌, ◌-◌, ◌%◌, ◌<◌, ◌≤◌, List, [], ◌∷◌, ◌++◌, cond, length, map, take, drop, Option, Some, None, ◌⊎◌}
+use Rattle.std.specs.Prelude.{◌≡◌, ◌≢◌, ℕ, ◌+◌, ◌-◌, ◌%◌, ◌<◌, ◌≤◌, List, [], ◌∷◌, ◌++◌, length, map, take, drop, Option, Some, None, ◌⊎◌}
 use Rattle.atomic_table.specs.Table.{Me, Step as TableStep}
-use Rattle.ifl_ringcore.specs.declared.history.Step.{Step}
 use Rattle.ifl_ringcore.specs.declared.history.Step.TheVariants.{Look, Refuse, Reserve, Behind, Elected, Abdicating, Advance, TakeOver}
 use Rattle.ifl_base.specs.declared.word.Flag.{Flag}
 use Rattle.ifl_base.specs.declared.word.Flag.TheVariants.{Idle, Busy, Stalled, Abdicated}
@@ -17,46 +16,25 @@ use Rattle.ifl_ring.specs.declared.place.Place.TheVariants.{Vacant, Post, Told, 
 use mathlib.Core.Option.{some, none}
 use mathlib.Core.Option as maybe
 use Rattle.ifl_ring.specs.Acts.{out_all, laid, items_in}
-use Rattle.ifl_ringcore.specs.State.{Reservation, Consumer, consumer_of, reservation, reservation_of, role_of, free, first_state, ring_word}
+use Rattle.ifl_ringcore.specs.State.{Reservation, Consumer, consumer_of, reservation, reservation_of, role_of, free, first_state}
 use Rattle.ifl_ringcore.specs.Effects.{went_on, elected}
 use Rattle.ifl_ringcore.specs.Invariant.{reach_of, RingInvariant}
-use Rattle.ifl_ringcore.specs.History.{state_after, IsLegalHistory, own}
+use Rattle.ifl_ringcore.specs.History.{state_after, IsLegalHistory}
 use Rattle.ifl_base.specs.Word.{pack}
 use Rattle.ifl_base.specs.Space.{space, advanced}
-use Rattle.ifl_ring.specs.Law.{has, Has, AreOf, IsWholeAmong, saw, Begins, Complete, joined_known, HasRoom, AreApart, AreDisjoint}
+use Rattle.ifl_ring.specs.Seats.{Has, IsWholeAmong, saw, Begins, Complete, entry, Made, last_word, Names}
+use Rattle.ifl_ring.specs.Law.{HasRoom, AreApart}
 use Rattle.ifl_base.specs.declared.limits.TheConstants.{PART}
 use Rattle.ifl_ring.specs.declared.view.Past.{Past}
 use Rattle.ifl_ring.specs.Calls.{parting}
-
-abbrev pub entry : ℕ → ℕ → Step → Entry
-entry k n e = record { seat = k; found = n; event = e }
-
--- the seat saw all that came between, and then made this event
-pub record Made (size : ℕ) (v : Known) (e : Entry) (w : Known) : Type 0 where
-  pub between : List Entry
-  pub mine : e.seat ≡ v.number
-  pub is : w ≡ saw ((v.seen ++ between) ++ e ∷ []) v
-  pub found : e.found ≡ pack (ring_word size (state_after first_state (v.seen ++ between)))
-  pub apart : (k : ℕ) → Has k v.stands → own k (v.seen ++ between) ≡ own k v.seen
-  pub whole : IsWholeAmong v (v.seen ++ between)
-  pub role : role_of v.number (state_after first_state (v.seen ++ between)) ≡ role_of v.number (state_after first_state v.seen)
-  pub legal : IsLegalHistory size first_state w.seen
-  pub good : RingInvariant size (state_after first_state w.seen)
 
 -- the size of a ring, from its table's number of slots
 abbrev pub size_of : {S : Type 0} → TableStep S → ℕ
 size_of st = st.slots - 1
 
--- the word as the seat saw it last
-abbrev pub last_word : ℕ → Known → RingWord
-last_word size v = ring_word size (state_after first_state v.seen)
-
-abbrev pub Looks : ℕ → Known → ℕ → Known → Type 0
-Looks size v n w = Made size v (entry v.number n Look) w × (n ≡ pack (last_word size w))
-
--- the seat looked, and this is the word that its look found
-abbrev pub Looked : ℕ → Known → RingWord → Known → Type 0
-Looked size v w after_it = Made size v (entry v.number (pack w) Look) after_it × (w ≡ last_word size after_it)
+-- the same, with the word packed
+abbrev pub SeesWord : ℕ → Known → ℕ → Known → Type 0
+SeesWord size v n w = Made size v (entry v.number n Look) w × (n ≡ pack (last_word size w))
 
 -- the first number of a seat's reservation
 abbrev pub start_of : Option Reservation → ℕ
@@ -97,18 +75,18 @@ abbrev pub Same : {O : Type 0} → View O → View O → Type 0
 Same v w = (w.told ≡ []) × (w.origin ≡ v.origin)
 
 module _ {I D O : Type 0} where
-  abbrev pub looked : TableStep (Place I D) → Me (Place I D) (View O) → ℕ → Me (Place I D) (View O) → Type 0
-  looked st m n m' = Same m.0 m'.0 × (m'.1 ≡ m.1) × Looks (size_of st) m.0.known n m'.0.known
+  abbrev pub sees : TableStep (Place I D) → Me (Place I D) (View O) → ℕ → Me (Place I D) (View O) → Type 0
+  sees st m n m' = Same m.0 m'.0 × (m'.1 ≡ m.1) × SeesWord (size_of st) m.0.known n m'.0.known
 
   abbrev pub reserved : TableStep (Place I D) → Me (Place I D) (View O) → ℕ → Me (Place I D) (View O) → Type 0
   reserved st m n m' =
       (n ≡ st.first → Same m.0 m'.0 × Reserves (size_of st) (told st.said) m.0.known n m'.0.known × (m'.1 ≡ out_all nothing (size_of st) (place_of m'.0.known) (told st.said) m.1))
-      × (n ≢ st.first → looked st m n m')
+      × (n ≢ st.first → sees st m n m')
 
-  abbrev pub joined : (I → Meaning) → TableStep (Place I D) → Me (Place I D) (View O) → ℕ → Me (Place I D) (View O) → Type 0
-  joined meaning st m n m' =
+  abbrev pub goes_behind : (I → Meaning) → TableStep (Place I D) → Me (Place I D) (View O) → ℕ → Me (Place I D) (View O) → Type 0
+  goes_behind meaning st m n m' =
       (n ≡ st.first → Same m.0 m'.0 × Behinds (size_of st) (map meaning (items_in m.1)) m.0.known n m'.0.known × (m'.1 ≡ []))
-      × (n ≢ st.first → looked st m n m')
+      × (n ≢ st.first → sees st m n m')
 
   -- the seat has the drainer, and the items from c to p
   pub record Handed (meaning : I → Meaning) (origin : D → O) (settled full : D → Type 0) (stands_for : D → List Meaning → Type 0) (size c : ℕ) (items : List Meaning) (o : Option O) (out : List (ℕ × Place I D)) : Type 0 where
@@ -126,18 +104,7 @@ module _ {I D O : Type 0} where
   drains meaning origin settled full stands_for st m n m' =
       (n ≡ st.first → Same m.0 m'.0 × Electing (size_of st) (told st.said) (map meaning (items_in m.1)) m.0.known n m'.0.known
       × Handed meaning origin settled full stands_for (size_of st) (state_after first_state m'.0.known.seen).released (state_after first_state m'.0.known.seen).items m'.0.origin m'.1)
-      × (n ≢ st.first → looked st m n m')
-
--- a new seat got its number, and has seen what came between
-pub record Names (size : ℕ) (v w : Known) : Type 0 where
-  pub between : List Entry
-  pub seen : w.seen ≡ v.seen ++ between
-  pub part : w.part ≡ v.part
-  pub stands : w.stands ≡ w.number ∷ []
-  pub silent : own w.number w.seen ≡ []
-  pub role : role_of w.number (state_after first_state w.seen) ≡ free
-  pub legal : IsLegalHistory size first_state w.seen
-  pub good : RingInvariant size (state_after first_state w.seen)
+      × (n ≢ st.first → sees st m n m')
 
 -- both histories begin the one that is seen now, and had all entries of their numbers
 abbrev pub Recalls : List Entry → List Past → Type 0
@@ -153,19 +120,6 @@ pub record Meets (size : ℕ) (told : List Past) (v w : Known) : Type 0 where
   pub whole : IsWholeAmong v w.seen
   pub legal : IsLegalHistory size first_state w.seen
   pub good : RingInvariant size (state_after first_state w.seen)
-
--- one seat stands for the numbers of both, and both histories begin what it has seen; with all parts it stands for all
-pub record Joined (size : ℕ) (v w x : Known) : Type 0 where
-  pub is : x ≡ saw x.seen (joined_known v w)
-  pub first : Begins x.seen v.seen
-  pub first_whole : Complete x.seen v.stands v.seen
-  pub second : Begins x.seen w.seen
-  pub second_whole : Complete x.seen w.stands w.seen
-  pub apart : AreDisjoint v.stands w.stands
-  pub within : x.part ≤ PART
-  pub whole : IsWholeAmong x x.seen
-  pub legal : IsLegalHistory size first_state x.seen
-  pub good : RingInvariant size (state_after first_state x.seen)
 
 module _ {I D O : Type 0} where
   abbrev pub christened : TableStep (Place I D) → Me (Place I D) (View O) → ℕ → Me (Place I D) (View O) → Type 0
@@ -201,13 +155,13 @@ module _ {I D O : Type 0} where
   abbrev pub left : TableStep (Place I D) → Me (Place I D) (View O) → ℕ → Me (Place I D) (View O) → Type 0
   left st m x m' =
       (x ≡ st.first → Same m.0 m'.0 × Leaves (size_of st) (parting_of st.said).1 (parting_of st.said).0 m.0.known x m'.0.known × (m'.1 ≡ []))
-      × (x ≢ st.first → looked st m x m')
+      × (x ≢ st.first → sees st m x m')
 
   abbrev pub went_forth : (I → Meaning) → (D → O) → (D → Type 0) → (D → Type 0) → (D → List Meaning → Type 0) → TableStep (Place I D) → Me (Place I D) (View O) → ℕ → Me (Place I D) (View O) → Type 0
   went_forth meaning origin settled full stands_for st m x m' =
       (x ≡ st.first → Same m.0 m'.0 × Advances (size_of st) (told st.said) m.0.known x m'.0.known
       × Handed meaning origin settled full stands_for (size_of st) (state_after first_state m'.0.known.seen).released (state_after first_state m'.0.known.seen).items m'.0.origin m'.1)
-      × (x ≢ st.first → looked st m x m')
+      × (x ≢ st.first → sees st m x m')
 
   -- a consumer that has consumed n items since it moved the visible cidx, with the drainer and all other items back in its slots
   pub record Parked (meaning : I → Meaning) (origin : D → O) (settled full : D → Type 0) (stands_for : D → List Meaning → Type 0) (size n : ℕ) (m : Me (Place I D) (View O)) : Type 0 where
@@ -233,26 +187,6 @@ MayPart size Idle n d w = (1 ≤ n) × (n ≤ 95) × (w.tail ≡ advanced size w
 MayPart size Busy n d w = (1 ≤ n) × (n ≤ 95) × ((d.done + n ≡ d.known) ⊎ (64 ≤ n) ⊎ (d.budget ≤ d.total + n)) × (w.tail ≢ advanced size w.cidx n) × (d.budget ≤ d.total + n → w.tail ≡ w.head)
 MayPart size Stalled n d w = (n ≤ 63) × (d.done + n < d.known) × ((n ≡ 0) ⊎ (d.total + n < d.budget))
 MayPart size Abdicated n d w = (1 ≤ n) × (n ≤ 95) × (d.budget ≤ d.total + n) × (w.tail ≢ advanced size w.cidx n) × (w.tail ≢ w.head)
-
--- the entries of these seats
-abbrev pub of_all : List ℕ → List Entry → List Entry
-of_all stands [] = []
-of_all stands (e ∷ es) = cond (has e.seat stands) (e ∷ of_all stands es) (of_all stands es)
-
--- the own events of a seat
-abbrev pub events : Known → List Entry
-events v = of_all v.stands v.seen
-
--- what a call does to a seat: it has seen more, and made just these events, which bear its own number; with all parts it
--- stands for the numbers of all that it has seen
-pub record Went (size : ℕ) (v : Known) (es : List Entry) (w : Known) : Type 0 where
-  pub is : w ≡ saw w.seen v
-  pub begins : Begins w.seen v.seen
-  pub made : events w ≡ events v ++ es
-  pub mine : AreOf v.number es
-  pub whole : IsWholeAmong w w.seen
-  pub legal : IsLegalHistory size first_state w.seen
-  pub good : RingInvariant size (state_after first_state w.seen)
 
 -- a seat with a reservation of k places, whose items lie in its slots
 pub record Holding {I D O : Type 0} (size k : ℕ) (m : Me (Place I D) (View O)) : Type 0 where
@@ -287,7 +221,7 @@ module _ {I D O : Type 0} where
   abbrev pub abdicated : (I → Meaning) → TableStep (Place I D) → Me (Place I D) (View O) → ℕ → Me (Place I D) (View O) → Type 0
   abdicated meaning st m n m' =
       (n ≡ st.first → Same m.0 m'.0 × Abdicates (size_of st) (map meaning (items_in m.1)) m.0.known n m'.0.known × (m'.1 ≡ []))
-      × (n ≢ st.first → looked st m n m')
+      × (n ≢ st.first → sees st m n m')
 
 -- the seat took the drain over
 pub record TakesOver (size b : ℕ) (v : Known) (n : ℕ) (w : Known) : Type 0 where
@@ -299,8 +233,4 @@ module _ {I D O : Type 0} where
   took_over meaning origin settled full stands_for st m n m' =
       (n ≡ st.first → Same m.0 m'.0 × TakesOver (size_of st) (told st.said) m.0.known n m'.0.known
       × Handed meaning origin settled full stands_for (size_of st) (state_after first_state m'.0.known.seen).released (state_after first_state m'.0.known.seen).items m'.0.origin m'.1)
-      × (n ≢ st.first → looked st m n m')
-
--- the seat is as it was, or has made some events
-abbrev pub Moved : ℕ → Known → Known → Type 0
-Moved size v w = (v ≡ w) ⊎ ((es : List Entry) × Went size v es w)
+      × (n ≢ st.first → sees st m n m')

@@ -8,9 +8,8 @@ use Rattle.ifl_ringcore.specs.Invariant.{RingInvariant}
 use Rattle.ifl_ringcore.specs.State.{first_state}
 use Rattle.ifl_ring.specs.declared.view.Known.{Known}
 use Rattle.ifl_ring.specs.Calls.{AreLooks, parting}
-use Rattle.ifl_ring.specs.Law.{IsWholeAmong}
+use Rattle.ifl_ring.specs.Seats.{IsWholeAmong, Went}
 use Rattle.ifl_ring.specs.Tally.{Counts}
-use Rattle.ifl_ring.specs.Tells.{Went}
 
 -- the seat has seen a legal history, and with all parts it stands for all numbers in it
 abbrev pub IsLived : ℕ → Known → Type 0

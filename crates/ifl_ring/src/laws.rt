@@ -16,7 +16,7 @@ ghost use mathlib.Core.Option.{some, none};
 ghost use lib.ListN.{get_elem?};
 ghost use Rattle.ifl_ring.specs.declared.view.Known.{Known};
 ghost use Rattle.ifl_ring.specs.Merges.{IsMerge};
-ghost use Rattle.ifl_ring.specs.Tells.{events, Joined};
+ghost use Rattle.ifl_ring.specs.Seats.{events, Joined};
 
 use crate::drainer::{Drainer, RingItem};
 

@@ -5,8 +5,9 @@
 //! is, and on `ifl_outside` for the gate. Its one contract: the steps on the word form one legal history, of which each
 //! seat has seen a beginning with all of its own steps, and the answer of each call is what its own steps found.
 //!
-//! `specs/` reads in this order: `Law` (the rule: who owns which slot, what a seat knows), `Tells` and `Acts` (single
-//! steps), `Calls` (the answers), `Tally` (the counts), `Rings` and `Closed` (what contracts see).
+//! `specs/` reads in this order: `Seats` (what contracts know of a seat, and what a call does to it), `Calls` (the
+//! answers), `Tally` (the counts), `Rings` and `Closed` (what contracts see); then, for the proof, `Law` (the rule: who
+//! owns which slot, what a view knows), `Tells` and `Acts` (single steps).
 #![tactic(auto)]
 
 mod answers;

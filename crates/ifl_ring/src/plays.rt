@@ -1,5 +1,5 @@
 //! What each step tells. These types are for the proofs alone.
-ghost use Rattle.ifl_ring.specs.Tells.{looked, reserved, refused, joined, abdicated, drains, christened, met, left, went_forth, took_over};
+ghost use Rattle.ifl_ring.specs.Tells.{sees, reserved, refused, goes_behind, abdicated, drains, christened, met, left, went_forth, took_over};
 ghost use Rattle.ifl_ring.specs.Law.{cut_left, cut_right, both, gone};
 
 use crate::drainer::{Drainer, RingItem};
@@ -12,7 +12,7 @@ use std::marker::PhantomData;
 pub struct See;
 
 impl<I, D, O> Play<Place<I, D>, View<O>> for See {
-    ghost then = { looked };
+    ghost then = { sees };
 }
 
 /// The head is moved over places that are reserved.
@@ -28,7 +28,7 @@ pub struct Publish<D> {
 }
 
 impl<D: Drainer> Play<Place<D::Item, D>, View<D::Origin>> for Publish<D> {
-    ghost then = { joined D.Item.meaning };
+    ghost then = { goes_behind D.Item.meaning };
 }
 
 /// Items are published, and the seat is the consumer.

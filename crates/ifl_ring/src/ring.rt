@@ -3,14 +3,13 @@ ghost use Rattle.std.specs.Prelude.{◌≡◌, ◌≤◌, [], ◌∷◌, length,
 ghost use Rattle.std.specs.VecDeque.{deque_capacity};
 ghost use Rattle.ifl_base.specs.declared.limits.TheConstants.{MAX_BATCH};
 ghost use Rattle.ifl_ring.specs.Calls.{AreHandedOver, IsChecked, IsEnqueued, publishing};
-ghost use Rattle.ifl_ring.specs.Law.{AreAmong, left_known, right_known, first_known};
+ghost use Rattle.ifl_ring.specs.Seats.{AreAmong, left_known, right_known, first_known, Sees, Names, Joined, Went, entry, events};
 ghost use Rattle.ifl_ring.specs.Rings.{IsFaultOf};
 ghost use Rattle.ifl_ring.specs.Tally.{tally_of};
 ghost use Rattle.ifl_ringcore.specs.Counters.{capped, counters_of, plus};
 ghost use Rattle.ifl_base.specs.Word.{pack};
 ghost use Rattle.ifl_ringcore.specs.declared.history.Step.TheVariants.{Look};
 ghost use Rattle.ifl_ring.specs.Merges.{IsMerge};
-ghost use Rattle.ifl_ring.specs.Tells.{Looked, Names, Joined, Went, entry, events};
 ghost use Rattle.ifl_base.specs.declared.limits.TheConstants.{PART};
 ghost use Rattle.ifl_ring.specs.Closed.{IsEnded, IsHandedBack, left_after};
 ghost use Rattle.ifl_ringcore.specs.State.{first_state};
@@ -41,9 +40,9 @@ pub struct Ring<D: Drainer> {
 }
 
 impl<D: Drainer> Model for Ring<D> {
-    ghost use Rattle.ifl_ring.specs.Rings.{RingState};
+    ghost use Rattle.ifl_ring.specs.Rings.{RingSeen};
 
-    ghost Value = { RingState D.Origin };
+    ghost Value = { RingSeen D.Origin };
 
     ghost view = { λ r. record { table = r.bare.table.shared.table_id; size = r.bare.size; origin = D.origin r.bare.table.shared.key.drainer.value } };
 }
@@ -173,7 +172,7 @@ impl<D: Drainer> Ring<D> {
     pub fn look(&self, seat: &mut Seat<D>) -> RingWord
         requires own { seat.old.table ≡ self.now.table }
         ensures own { seat.new.table ≡ seat.old.table }
-        ensures look { Looked self.now.size seat.old.known result seat.new.known }
+        ensures look { Sees self.now.size seat.old.known result seat.new.known }
         ensures went { Went self.now.size seat.old.known (entry seat.old.known.number (pack result) Look ∷ []) seat.new.known }
     {
         self.bare.look(&mut seat.seat)

@@ -1,6 +1,8 @@
 ghost use Rattle.std.specs.Prelude.{true, ◌≡◌, ◌≤◌, [], drop, length, IfOk};
 ghost use Rattle.std.specs.VecDeque.{deque_capacity};
 
+mod gates;
+mod ledger;
 mod sending;
 
 use super::{Checked, Drainer, Enqueued, Ring, RingFault, RingItem, Seat};

@@ -2,31 +2,9 @@
 ghost use Rattle.std.specs.Prelude.{◌⊎◌, ◌≢◌, true, false, ◌≡◌, ◌<◌, ◌≤◌};
 ghost use Rattle.ifl_base.specs.Space.{advanced};
 ghost use Rattle.ifl_base.specs.Word.{IsWithin};
-ghost use Rattle.ifl_ringcore.specs.Effects.{risen};
 ghost use Rattle.ifl_ring.specs.Draining.{FlagAfter};
 
 use ifl_base::{Flag, RingWord, advance, flag_after};
-
-/// Whether there is a consumer.
-pub fn is_busy(flag: Flag) -> bool
-    ensures yes { result ≡ true → flag ≡ Flag.Busy }
-    ensures no { result ≡ false → flag ≢ Flag.Busy }
-{
-    matches!(flag, Flag::Busy)
-}
-
-/// How far it is from one place on to another.
-pub fn distance(size: u32, from: u16, to: u16) -> u32
-    requires { (from < size) × (to < size) × (size ≤ 65536) }
-    ensures less { result < size }
-    ensures there { advanced size from result ≡ to }
-{
-    if to >= from {
-        to as u32 - from as u32
-    } else {
-        size - from as u32 + to as u32
-    }
-}
 
 /// The word with `n` places released.
 pub fn released(size: u32, w: &RingWord, n: u32) -> RingWord
@@ -68,22 +46,4 @@ pub fn is_left(w: &RingWord) -> bool
         Flag::Abdicated => w.tail == w.head,
         _ => false,
     }
-}
-
-/// The flag after items came that nobody is to consume at once.
-pub fn risen(flag: Flag) -> Flag
-    ensures { result ≡ risen flag }
-{
-    match flag {
-        Flag::Idle => Flag::Abdicated,
-        other => other,
-    }
-}
-
-/// Whether the drainer could take no more.
-pub fn is_stalled(flag: Flag) -> bool
-    ensures yes { result ≡ true → flag ≡ Flag.Stalled }
-    ensures no { result ≡ false → flag ≢ Flag.Stalled }
-{
-    matches!(flag, Flag::Stalled)
 }

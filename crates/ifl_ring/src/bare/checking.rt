@@ -1,6 +1,6 @@
 //! Taking over what another consumer left.
 ghost use Rattle.std.specs.Prelude.{◌⊎◌, ◌≡◌, ◌≢◌, ◌≤◌, [], IfOk, IfErr};
-ghost use Rattle.ifl_ring.specs.Tells.{Looks, Same, Handed, TakesOver};
+ghost use Rattle.ifl_ring.specs.Tells.{SeesWord, Same, Handed, TakesOver};
 ghost use Rattle.ifl_ring.specs.Calls.{IsChecked};
 ghost use Rattle.ifl_ring.specs.Law.{Rests};
 ghost use Rattle.ifl_ring.specs.Tally.{TallyRises};
@@ -19,9 +19,10 @@ use crate::counted::count_drained;
 use crate::drainer::{Drainer, RingItem};
 use crate::place::Place;
 use crate::plays::TakeOver;
-use crate::word::{distance, is_left};
+use crate::word::is_left;
 use ifl_base::{Flag, RingWord};
 use ifl_ringcore::Counters;
+use ifl_ringcore::words::distance;
 use std::sync::Wait;
 
 impl<D: Drainer> BareRing<D> {
@@ -32,7 +33,7 @@ impl<D: Drainer> BareRing<D> {
         requires word { IsWithin self.now.size w.now × ((w.now.flag ≡ Flag.Stalled) ⊎ (w.now.flag ≡ Flag.Abdicated)) × (w.now.tail ≡ w.now.head) }
         ensures same { (seat.new.table_id ≡ seat.old.table_id) × (seat.new.id ≡ seat.old.id) }
         ensures ok { IfOk result (λ _. Same seat.old.me.0 seat.new.me.0 × TakesOver self.now.size budget seat.old.me.0.known (pack w.now) seat.new.me.0.known × Handed D.Item.meaning D.origin D.settled D.full D.stands_for self.now.size (state_after first_state seat.new.me.0.known.seen).released (state_after first_state seat.new.me.0.known.seen).items seat.new.me.0.origin seat.new.me.1) }
-        ensures err { IfErr result (λ x. Looks self.now.size seat.old.me.0.known x seat.new.me.0.known × (seat.new.me.1 ≡ seat.old.me.1) × Same seat.old.me.0 seat.new.me.0 × (x ≢ pack w.now)) }
+        ensures err { IfErr result (λ x. SeesWord self.now.size seat.old.me.0.known x seat.new.me.0.known × (seat.new.me.1 ≡ seat.old.me.1) × Same seat.old.me.0 seat.new.me.0 × (x ≢ pack w.now)) }
     {
         let next = RingWord {
             head: w.head,

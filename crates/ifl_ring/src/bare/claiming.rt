@@ -9,7 +9,7 @@ ghost use Rattle.ifl_ringcore.specs.Counters.{nothing_counted};
 ghost use Rattle.ifl_ring.specs.Calls.{AreLooks, EndsRefused, EndsReserved, Finds, publishing};
 ghost use Rattle.ifl_ring.specs.Law.{Rests};
 ghost use Rattle.ifl_ring.specs.Publishing.{HasPlaces};
-ghost use Rattle.ifl_ring.specs.Tells.{entry, last_word, Made};
+ghost use Rattle.ifl_ring.specs.Seats.{entry, last_word, Made};
 ghost use Rattle.ifl_ring.specs.Trails.{IsLived, Trails};
 
 use crate::bare::{BareRing, BareSeat, read};

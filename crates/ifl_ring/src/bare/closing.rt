@@ -6,7 +6,7 @@ ghost use Rattle.std.specs.VecDeque.{deque_capacity};
 ghost use Rattle.ifl_base.specs.declared.limits.TheConstants.{PART};
 ghost use Rattle.ifl_ring.specs.Acts.{item_in};
 ghost use Rattle.ifl_ring.specs.Closed.{IsClosed, IsHandedBack, items_lying};
-ghost use Rattle.ifl_ring.specs.Law.{AreAmong};
+ghost use Rattle.ifl_ring.specs.Seats.{AreAmong};
 ghost use Rattle.ifl_ring.specs.Law.{Rests};
 
 use crate::bare::{BareRing, BareSeat, read};

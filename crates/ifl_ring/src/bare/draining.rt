@@ -10,8 +10,8 @@ ghost use Rattle.ifl_ring.specs.Law.{IsAtRest};
 use crate::bare::{BareRing, BareSeat};
 use crate::drainer::{Drainer, RingItem};
 use crate::place::{Outlet, Place};
-use crate::word::is_busy;
 use ifl_base::{Flag, UPDATE_AFTER, advance};
+use ifl_ringcore::words::is_busy;
 use std::collections::VecDeque;
 use std::sync::Wait;
 

@@ -10,7 +10,7 @@ ghost use Rattle.ifl_ring.specs.Calls.{AreHandedOver, AreLooks, IsDelivered, IsD
 ghost use Rattle.ifl_ring.specs.Law.{Rests};
 ghost use Rattle.ifl_ring.specs.Publishing.{IsPublished, IsConsumer};
 ghost use Rattle.ifl_ring.specs.Tally.{TallyRises};
-ghost use Rattle.ifl_ring.specs.Tells.{HasTurn, HoldsAt, Looks, Same};
+ghost use Rattle.ifl_ring.specs.Tells.{HasTurn, HoldsAt, SeesWord, Same};
 ghost use Rattle.ifl_ring.specs.Trails.{IsLived, Trails};
 
 use crate::answers::Enqueued;
@@ -19,10 +19,10 @@ use crate::counted::{count_drained, count_elected, count_published, count_refuse
 use crate::drainer::{Drainer, RingItem};
 use crate::published::Published;
 use crate::waiting::Waiting;
-use crate::word::{distance, is_busy, is_stalled};
 use ifl_base::{RingWord, advance};
 use ifl_outside::{Gate, Point};
 use ifl_ringcore::Counters;
+use ifl_ringcore::words::{distance, is_busy, is_stalled};
 use std::collections::VecDeque;
 use std::sync::Wait;
 
@@ -41,7 +41,7 @@ impl<D: Drainer> BareRing<D> {
         requires word { IsWithin self.now.size w.now }
         requires count { n < self.now.size }
         ensures same { (seat.new.table_id ≡ seat.old.table_id) × (seat.new.id ≡ seat.old.id) }
-        ensures err { IfErr result (λ x. Looks self.now.size seat.old.me.0.known x seat.new.me.0.known × (seat.new.me.1 ≡ seat.old.me.1) × Same seat.old.me.0 seat.new.me.0) }
+        ensures err { IfErr result (λ x. SeesWord self.now.size seat.old.me.0.known x seat.new.me.0.known × (seat.new.me.1 ≡ seat.old.me.1) × Same seat.old.me.0 seat.new.me.0) }
         ensures ok { IfOk result (λ p. IsPublished self.now.size budget n abdicate (map D.Item.meaning (items_in seat.old.me.1)) w.now seat.old.me.0.known p seat.new.me.0.known × IsConsumer D.Item.meaning D.origin D.settled D.stands_for self.now.size budget w.now p seat.new.me) }
     {
         if abdicate {

@@ -1,9 +1,10 @@
 //! Steps by which a seat reserves places and publishes its items.
 ghost use Rattle.std.specs.Prelude.{◌≡◌, ◌≢◌, ◌<◌, [], map, IfOk, IfErr};
-ghost use Rattle.ifl_ring.specs.Tells.{Abdicates, Looks, Reserves, Same, nothing, place_of, Behinds, Electing, Handed, HasTurn};
+ghost use Rattle.ifl_ring.specs.Tells.{Abdicates, SeesWord, Reserves, Same, nothing, place_of, Behinds, Electing, Handed, HasTurn};
 ghost use Rattle.ifl_ring.specs.Acts.{out_all, items_in};
 ghost use Rattle.atomic_table.specs.Table.{rest};
-ghost use Rattle.ifl_ring.specs.Law.{Has, IsAtRest};
+ghost use Rattle.ifl_ring.specs.Seats.{Has};
+ghost use Rattle.ifl_ring.specs.Law.{IsAtRest};
 ghost use Rattle.ifl_base.specs.Word.{pack};
 ghost use Rattle.ifl_ringcore.specs.State.{first_state};
 ghost use Rattle.ifl_ringcore.specs.History.{state_after};
@@ -15,8 +16,8 @@ use crate::bare::{BareRing, BareSeat, read};
 use crate::drainer::{Drainer, RingItem};
 use crate::place::Place;
 use crate::plays::{Abdicate, Elect, Publish, Reserve, See};
-use crate::word::risen;
 use ifl_base::{Flag, RingWord, advance};
+use ifl_ringcore::words::risen;
 use std::sync::Wait;
 
 impl<D: Drainer> BareRing<D> {
@@ -28,7 +29,7 @@ impl<D: Drainer> BareRing<D> {
         requires room { IsBatch n × (n < space self.now.size w.now) }
         ensures same { (seat.new.table_id ≡ seat.old.table_id) × (seat.new.id ≡ seat.old.id) × Same seat.old.me.0 seat.new.me.0 }
         ensures ok { IfOk result (λ _. Reserves self.now.size n seat.old.me.0.known (pack w.now) seat.new.me.0.known × (seat.new.me.1 ≡ out_all nothing self.now.size (place_of seat.new.me.0.known) n [])) }
-        ensures err { IfErr result (λ x. Looks self.now.size seat.old.me.0.known x seat.new.me.0.known × (seat.new.me.1 ≡ [])) }
+        ensures err { IfErr result (λ x. SeesWord self.now.size seat.old.me.0.known x seat.new.me.0.known × (seat.new.me.1 ≡ [])) }
     {
         let next = RingWord {
             head: advance(self.size, w.head, n),
@@ -51,7 +52,7 @@ impl<D: Drainer> BareRing<D> {
         requires named { Has seat.old.me.0.known.number seat.old.me.0.known.stands × (seat.old.me.0.told ≡ []) }
         ensures same { (seat.new.table_id ≡ seat.old.table_id) × (seat.new.id ≡ seat.old.id) × (seat.new.me.1 ≡ seat.old.me.1) × Same seat.old.me.0 seat.new.me.0 }
         ensures within { IsWithin self.now.size result }
-        ensures look { Looks self.now.size seat.old.me.0.known (pack result) seat.new.me.0.known }
+        ensures look { SeesWord self.now.size seat.old.me.0.known (pack result) seat.new.me.0.known }
     {
         let word = self.table.shared.load::<See>(seat, 0);
         read(self.size, word)
@@ -65,7 +66,7 @@ impl<D: Drainer> BareRing<D> {
         requires count { n < self.now.size }
         ensures same { (seat.new.table_id ≡ seat.old.table_id) × (seat.new.id ≡ seat.old.id) }
         ensures ok { IfOk result (λ _. Same seat.old.me.0 seat.new.me.0 × Behinds self.now.size (map D.Item.meaning (items_in seat.old.me.1)) seat.old.me.0.known (pack w.now) seat.new.me.0.known × (seat.new.me.1 ≡ [])) }
-        ensures err { IfErr result (λ x. Looks self.now.size seat.old.me.0.known x seat.new.me.0.known × (seat.new.me.1 ≡ seat.old.me.1) × Same seat.old.me.0 seat.new.me.0) }
+        ensures err { IfErr result (λ x. SeesWord self.now.size seat.old.me.0.known x seat.new.me.0.known × (seat.new.me.1 ≡ seat.old.me.1) × Same seat.old.me.0 seat.new.me.0) }
     {
         let next = RingWord {
             head: w.head,
@@ -94,8 +95,10 @@ impl<D: Drainer> BareRing<D> {
         requires word { IsWithin self.now.size w.now × (w.now.flag ≢ Flag.Busy) }
         requires count { n < self.now.size }
         ensures same { (seat.new.table_id ≡ seat.old.table_id) × (seat.new.id ≡ seat.old.id) }
-        ensures ok { IfOk result (λ _. Same seat.old.me.0 seat.new.me.0 × Electing self.now.size budget (map D.Item.meaning (items_in seat.old.me.1)) seat.old.me.0.known (pack w.now) seat.new.me.0.known × Handed D.Item.meaning D.origin D.settled D.full D.stands_for self.now.size (state_after first_state seat.new.me.0.known.seen).released (state_after first_state seat.new.me.0.known.seen).items seat.new.me.0.origin seat.new.me.1) }
-        ensures err { IfErr result (λ x. Looks self.now.size seat.old.me.0.known x seat.new.me.0.known × (seat.new.me.1 ≡ seat.old.me.1) × Same seat.old.me.0 seat.new.me.0) }
+        ensures ok { IfOk result (λ _. Same seat.old.me.0 seat.new.me.0
+            × Electing self.now.size budget (map D.Item.meaning (items_in seat.old.me.1)) seat.old.me.0.known (pack w.now) seat.new.me.0.known
+            × Handed D.Item.meaning D.origin D.settled D.full D.stands_for self.now.size (state_after first_state seat.new.me.0.known.seen).released (state_after first_state seat.new.me.0.known.seen).items seat.new.me.0.origin seat.new.me.1) }
+        ensures err { IfErr result (λ x. SeesWord self.now.size seat.old.me.0.known x seat.new.me.0.known × (seat.new.me.1 ≡ seat.old.me.1) × Same seat.old.me.0 seat.new.me.0) }
     {
         let next = RingWord {
             head: w.head,
@@ -125,7 +128,7 @@ impl<D: Drainer> BareRing<D> {
         requires count { n < self.now.size }
         ensures same { (seat.new.table_id ≡ seat.old.table_id) × (seat.new.id ≡ seat.old.id) }
         ensures ok { IfOk result (λ _. Same seat.old.me.0 seat.new.me.0 × Abdicates self.now.size (map D.Item.meaning (items_in seat.old.me.1)) seat.old.me.0.known (pack w.now) seat.new.me.0.known × (seat.new.me.1 ≡ [])) }
-        ensures err { IfErr result (λ x. Looks self.now.size seat.old.me.0.known x seat.new.me.0.known × (seat.new.me.1 ≡ seat.old.me.1) × Same seat.old.me.0 seat.new.me.0) }
+        ensures err { IfErr result (λ x. SeesWord self.now.size seat.old.me.0.known x seat.new.me.0.known × (seat.new.me.1 ≡ seat.old.me.1) × Same seat.old.me.0 seat.new.me.0) }
     {
         let next = RingWord {
             head: w.head,

@@ -1,6 +1,6 @@
 //! Steps by which a consumer shows how far it has come.
 ghost use Rattle.std.specs.Prelude.{true, false, ◌≡◌, ◌≢◌, ◌+◌, ◌<◌, ℕ, [], length, IfOk, IfErr};
-ghost use Rattle.ifl_ring.specs.Tells.{Looks, Same, Handed, Leaves, Advances, Parked, MayPart};
+ghost use Rattle.ifl_ring.specs.Tells.{SeesWord, Same, Handed, Leaves, Advances, Parked, MayPart};
 ghost use Rattle.ifl_ring.specs.Draining.{Drives, EndsRound, IsOver};
 ghost use Rattle.ifl_ring.specs.Tally.{drain_rise};
 ghost use Rattle.ifl_ring.specs.Trails.{IsLived, IsRelease, Trails};
@@ -14,8 +14,9 @@ use crate::bare::{BareRing, BareSeat, read};
 use crate::drainer::{Drainer, RingItem};
 use crate::place::Place;
 use crate::plays::{GoOn, Leave, See};
-use crate::word::{distance, flag_to_set, is_busy};
+use crate::word::flag_to_set;
 use ifl_base::{Flag, RingWord, advance};
+use ifl_ringcore::words::{distance, is_busy};
 use std::sync::Wait;
 
 impl<D: Drainer> BareRing<D> {
@@ -27,7 +28,7 @@ impl<D: Drainer> BareRing<D> {
         requires parked { (p : Parked D.Item.meaning D.origin D.settled D.full D.stands_for self.now.size n seat.old.me) × MayPart self.now.size flag n p.consumer w.now × (flag ≡ Flag.Stalled → D.full p.outlet.value.drainer) }
         ensures same { (seat.new.table_id ≡ seat.old.table_id) × (seat.new.id ≡ seat.old.id) }
         ensures ok { IfOk result (λ _. Leaves self.now.size flag n seat.old.me.0.known (pack w.now) seat.new.me.0.known × (seat.new.me.1 ≡ []) × Same seat.old.me.0 seat.new.me.0) }
-        ensures err { IfErr result (λ x. Looks self.now.size seat.old.me.0.known x seat.new.me.0.known × (seat.new.me.1 ≡ seat.old.me.1) × Same seat.old.me.0 seat.new.me.0) }
+        ensures err { IfErr result (λ x. SeesWord self.now.size seat.old.me.0.known x seat.new.me.0.known × (seat.new.me.1 ≡ seat.old.me.1) × Same seat.old.me.0 seat.new.me.0) }
     {
         let next = RingWord {
             head: w.head,
@@ -52,7 +53,7 @@ impl<D: Drainer> BareRing<D> {
         requires parked { (p : Parked D.Item.meaning D.origin D.settled D.full D.stands_for self.now.size n seat.old.me) × MayPart self.now.size Flag.Busy n p.consumer w.now }
         ensures same { (seat.new.table_id ≡ seat.old.table_id) × (seat.new.id ≡ seat.old.id) }
         ensures ok { IfOk result (λ _. Same seat.old.me.0 seat.new.me.0 × Advances self.now.size n seat.old.me.0.known (pack w.now) seat.new.me.0.known × Handed D.Item.meaning D.origin D.settled D.full D.stands_for self.now.size (state_after first_state seat.new.me.0.known.seen).released (state_after first_state seat.new.me.0.known.seen).items seat.new.me.0.origin seat.new.me.1) }
-        ensures err { IfErr result (λ x. Looks self.now.size seat.old.me.0.known x seat.new.me.0.known × (seat.new.me.1 ≡ seat.old.me.1) × Same seat.old.me.0 seat.new.me.0) }
+        ensures err { IfErr result (λ x. SeesWord self.now.size seat.old.me.0.known x seat.new.me.0.known × (seat.new.me.1 ≡ seat.old.me.1) × Same seat.old.me.0 seat.new.me.0) }
     {
         let next = RingWord {
             head: w.head,
@@ -78,7 +79,7 @@ impl<D: Drainer> BareRing<D> {
         ensures same { (seat.new.table_id ≡ seat.old.table_id) × (seat.new.id ≡ seat.old.id) × Same seat.old.me.0 seat.new.me.0 }
         ensures left { result ≡ true → flag ≢ Flag.Busy → Leaves self.now.size flag n seat.old.me.0.known (pack w.now) seat.new.me.0.known × (seat.new.me.1 ≡ []) }
         ensures on { result ≡ true → flag ≡ Flag.Busy → Advances self.now.size n seat.old.me.0.known (pack w.now) seat.new.me.0.known × Handed D.Item.meaning D.origin D.settled D.full D.stands_for self.now.size (state_after first_state seat.new.me.0.known.seen).released (state_after first_state seat.new.me.0.known.seen).items seat.new.me.0.origin seat.new.me.1 }
-        ensures looked { result ≡ false → (x : ℕ) × Looks self.now.size seat.old.me.0.known x seat.new.me.0.known × (seat.new.me.1 ≡ seat.old.me.1) }
+        ensures looked { result ≡ false → (x : ℕ) × SeesWord self.now.size seat.old.me.0.known x seat.new.me.0.known × (seat.new.me.1 ≡ seat.old.me.1) }
     {
         if is_busy(flag) {
             match self.go_on(seat, w, n) {
@@ -108,7 +109,9 @@ impl<D: Drainer> BareRing<D> {
         ensures same { (seat.new.table_id ≡ seat.old.table_id) × (seat.new.id ≡ seat.old.id) }
         ensures trail { (p : Parked D.Item.meaning D.origin D.settled D.full D.stands_for self.now.size n seat.old.me) → (es : _) × IsRelease result.0 n es × Trails self.now.size seat.old.me.0.known es (drain_rise p.consumer.from result.0 (p.consumer.total + n)) seat.new.me.0.known }
         ensures left { result.0 ≢ Flag.Busy → IsAtRest seat.new.me.0.known × (seat.new.me.0.told ≡ []) × (seat.new.me.1 ≡ []) }
-        ensures on { (p : Parked D.Item.meaning D.origin D.settled D.full D.stands_for self.now.size n seat.old.me) → result.0 ≡ Flag.Busy → (result.1 < self.now.size) × (result.2 < self.now.size) × ((v : Drives D.Item.meaning D.origin D.settled D.stands_for self.now.size result.2 result.1 seat.new.me) × (v.consumer.total ≡ p.consumer.total + n) × (v.consumer.budget ≡ p.consumer.budget) × (v.consumer.from ≡ p.consumer.from)) }
+        ensures on { (p : Parked D.Item.meaning D.origin D.settled D.full D.stands_for self.now.size n seat.old.me) → result.0 ≡ Flag.Busy
+            → (result.1 < self.now.size) × (result.2 < self.now.size)
+            × ((v : Drives D.Item.meaning D.origin D.settled D.stands_for self.now.size result.2 result.1 seat.new.me) × (v.consumer.total ≡ p.consumer.total + n) × (v.consumer.budget ≡ p.consumer.budget) × (v.consumer.from ≡ p.consumer.from)) }
     {
         for _ in rt.forever() {
             let word = self.table.shared.load::<See>(seat, 0);

@@ -1,8 +1,8 @@
 //! Looking at the word, and making two seats of one and one of two.
 ghost use Rattle.std.specs.Prelude.{◌≡◌, ◌≤◌};
 ghost use Rattle.ifl_base.specs.Word.{IsWithin};
-ghost use Rattle.ifl_ring.specs.Law.{left_known, right_known, Rests};
-ghost use Rattle.ifl_ring.specs.Tells.{Looked, Names, Joined};
+ghost use Rattle.ifl_ring.specs.Seats.{left_known, right_known, Sees, Names, Joined};
+ghost use Rattle.ifl_ring.specs.Law.{Rests};
 
 use crate::bare::{BareRing, BareSeat, read};
 use crate::drainer::{Drainer, RingItem};
@@ -17,7 +17,7 @@ impl<D: Drainer> BareRing<D> {
         ensures same { (seat.new.table_id ≡ seat.old.table_id) × (seat.new.id ≡ seat.old.id) }
         ensures rest { Rests seat.new.me }
         ensures within { IsWithin self.now.size result }
-        ensures look { Looked self.now.size seat.old.me.0.known result seat.new.me.0.known }
+        ensures look { Sees self.now.size seat.old.me.0.known result seat.new.me.0.known }
     {
         let word = self.table.shared.load::<See>(seat, 0);
         read(self.size, word)

@@ -5,7 +5,7 @@ use Rattle.ifl_ringcore.specs.declared.history.Entry.{Entry}
 use Rattle.ifl_ringcore.specs.declared.history.Step.TheVariants.{Look, TakeOver}
 use Rattle.ifl_ring.specs.declared.view.Known.{Known}
 use Rattle.ifl_ring.specs.Tally.{drain_rise}
-use Rattle.ifl_ring.specs.Tells.{entry}
+use Rattle.ifl_ring.specs.Seats.{entry}
 use Rattle.ifl_ring.proofs.Rests.{rests_after_look}
 use Rattle.ifl_ring.proofs.Settling.{over_taken}
 use Rattle.ifl_ring.proofs.Rising.{rises-nothing}

@@ -4,7 +4,7 @@ use Rattle.ifl_ringcore.specs.Counters.{nothing_counted}
 use Rattle.ifl_ringcore.specs.declared.history.Entry.{Entry}
 use Rattle.ifl_ringcore.specs.declared.history.Step.TheVariants.{Reserve}
 use Rattle.ifl_ring.specs.Calls.{publishes}
-use Rattle.ifl_ring.specs.Tells.{entry}
+use Rattle.ifl_ring.specs.Seats.{entry}
 use Rattle.ifl_ring.proofs.Claiming.{has_places, publishing-last}
 use Rattle.ifl_ring.proofs.Rests.{looked_word, rests_after_look}
 use Rattle.ifl_ring.proofs.Trails.{looks-append, lived, lived-made, trail-after, trail-first_look, trail-look, trail-looks, trail-made, trail-none}

@@ -4,7 +4,7 @@ use Rattle.ifl_ringcore.specs.Counters.{nothing_counted}
 use Rattle.ifl_ringcore.specs.declared.history.Entry.{Entry}
 use Rattle.ifl_ring.specs.Calls.{AreLooks}
 use Rattle.ifl_ring.specs.Law.{Rests}
-use Rattle.ifl_ring.specs.Tells.{last_word}
+use Rattle.ifl_ring.specs.Seats.{last_word}
 use Rattle.ifl_ring.specs.Trails.{Trails}
 use Rattle.ifl_ring.proofs.bare.BareRing.claim.Given as goal
 

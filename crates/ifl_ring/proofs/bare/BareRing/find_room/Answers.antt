@@ -2,7 +2,7 @@ use Rattle.std.proofs.Common.{arith, refl, [], ◌∷◌, ℕ, ◌<◌, ◌≤�
 use Rattle.ifl_base.specs.Space.{space}
 use Rattle.ifl_base.specs.Word.{pack}
 use Rattle.ifl_ringcore.specs.declared.history.Step.TheVariants.{Look, Refuse}
-use Rattle.ifl_ring.specs.Tells.{entry}
+use Rattle.ifl_ring.specs.Seats.{entry}
 use Rattle.ifl_ring.proofs.Trails.{trail-made, trail-none}
 use Rattle.ifl_ring.proofs.bare.BareRing.find_room.Goals as goal
 

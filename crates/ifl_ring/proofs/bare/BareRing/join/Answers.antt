@@ -1,5 +1,5 @@
 use Rattle.std.proofs.Common.{rules, ap, ◌∙◌, subst, ℕ}
-use Rattle.ifl_ring.specs.Tells.{Joined}
+use Rattle.ifl_ring.specs.Seats.{Joined}
 use Rattle.ifl_ring.proofs.Bridge.{sized}
 use Rattle.ifl_ring.proofs.Seats.{joins, meets_both, met_joined, met_rests}
 use Rattle.ifl_ring.proofs.bare.BareRing.join.Goals as goal

@@ -4,7 +4,7 @@ use Rattle.ifl_ring.specs.Acts.{items_in}
 use Rattle.ifl_ring.specs.Publishing.{IsPublished}
 use Rattle.ifl_ring.specs.declared.published.Published.TheVariants.{Behind, Abdicated, Elected}
 use Rattle.ifl_ring.specs.declared.view.Known.{Known}
-use Rattle.ifl_ring.specs.Law.{Has}
+use Rattle.ifl_ring.specs.Seats.{Has}
 use Rattle.ifl_ring.proofs.Enqueueing.{count-held, published-abdicating, published-behind, published-elected}
 use Rattle.ifl_ring.proofs.Settling.{over_elected}
 use Rattle.ifl_ring.proofs.bare.BareRing.publish.Goals as goal

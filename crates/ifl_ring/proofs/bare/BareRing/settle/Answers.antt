@@ -1,7 +1,8 @@
 use Rattle.std.proofs.Common.{rules, arith, sym, ap, ◌∙◌, refl, subst, [], ◌∷◌, length, ◌+◌, ◌≡◌}
 use Rattle.ifl_ringcore.specs.State.{Consumer, first_state}
 use Rattle.ifl_ringcore.specs.History.{state_after}
-use Rattle.ifl_ring.specs.Tells.{MayPart, entry}
+use Rattle.ifl_ring.specs.Seats.{entry}
+use Rattle.ifl_ring.specs.Tells.{MayPart}
 use Rattle.ifl_ring.proofs.Steps.{looks}
 use Rattle.ifl_ring.proofs.Bridge.{look_sized}
 use Rattle.std.proofs.Common.{◌++◌}

@@ -1,7 +1,7 @@
 use Rattle.std.proofs.Common.{List, [], ◌∷◌, ap, sym, subst, ◌∙◌}
 use Rattle.ifl_ring.specs.declared.view.Known.{Known}
 use Rattle.ifl_ring.specs.declared.view.View.{View}
-use Rattle.ifl_ring.specs.Law.{AreAmong}
+use Rattle.ifl_ring.specs.Seats.{AreAmong}
 use Rattle.ifl_ring.specs.Rings.{SeatState}
 use Rattle.ifl_ringcore.specs.State.{first_state}
 use Rattle.ifl_ring.proofs.Ending.{counters_among-whole}

@@ -2,7 +2,7 @@ use Rattle.std.proofs.Common.{rules, arith, ap, sym, ◌∙◌}
 use Rattle.ifl_ringcore.specs.Counters.{capped, plus}
 use Rattle.ifl_ring.specs.declared.view.Known.{Known}
 use Rattle.ifl_ring.specs.Tally.{tally_of}
-use Rattle.ifl_ring.specs.Tells.{Joined}
+use Rattle.ifl_ring.specs.Seats.{Joined}
 use Rattle.ifl_ring.proofs.Merging.{merge-joined}
 use Rattle.ifl_ring.proofs.Tallying.{capped-both, tally-joined}
 use Rattle.ifl_ring.proofs.ring.Ring.join.Goals as goal

@@ -3,7 +3,7 @@ use Rattle.ifl_ring.specs.declared.view.Known.{Known}
 use Rattle.std.specs.Prelude.{ℕ, [], ◌∷◌}
 use Rattle.ifl_base.specs.Word.{pack}
 use Rattle.ifl_ringcore.specs.declared.history.Step.TheVariants.{Look}
-use Rattle.ifl_ring.specs.Tells.{Went, entry}
+use Rattle.ifl_ring.specs.Seats.{Went, entry}
 use Rattle.ifl_ring.specs.Rings.{SeatState}
 use Rattle.ifl_ring.proofs.Calls.{made_went}
 use Rattle.ifl_ring.proofs.Tallying.{tally-looked}
