@@ -5,7 +5,6 @@ use Rattle.ifl_pcap.specs.File.{record_of}
 use Rattle.ifl_desc.specs.declared.desc.Desc.{Desc}
 use Rattle.ifl_desc.specs.declared.desc.Status.{Status}
 use Rattle.ifl_desc.specs.declared.desc.Status.TheVariants.{Posted, Emitted, Aborted, Flushed, Filled, Unused}
-use Rattle.ifl_desc.specs.History.{known}
 use Rattle.ifl_desc.specs.Frames.{IsSettled, IsWholeFrame}
 use Rattle.ifl_desc.specs.Port.{state_of}
 use Rattle.ifl_device.specs.declared.plan.EnginePlan.{EnginePlan}

@@ -9,7 +9,6 @@ use Rattle.ifl_desc.specs.declared.desc.Status.{Status}
 use Rattle.ifl_desc.specs.declared.desc.Status.TheVariants.{Emitted}
 use Rattle.ifl_desc.specs.declared.history.Event.{Event}
 use Rattle.ifl_desc.specs.Port.{state_of}
-use Rattle.ifl_desc.specs.History.{known}
 use Rattle.ifl_desc.proofs.Closing.{prefix_trans}
 use Rattle.ifl_device.specs.declared.plan.EnginePlan.{EnginePlan}
 use Rattle.ifl_device.specs.declared.point.Point.TheVariants as at

@@ -10,7 +10,7 @@ use Rattle.ifl_desc.specs.declared.history.Side.TheVariants.{Device}
 use Rattle.ifl_desc.specs.declared.history.Event.{Event}
 use Rattle.ifl_desc.specs.declared.history.Event.TheVariants.{Sent, Looked}
 use Rattle.ifl_desc.specs.History.{sent, known, looks}
-use Rattle.ifl_desc.specs.Ends.{DeviceSees, DriverSees, IsDevice, completed}
+use Rattle.ifl_desc.specs.Ends.{DeviceSees, DriverSees, IsDevice}
 use Rattle.ifl_desc.specs.Calls.{Grew, Fetches, Completes, Meets}
 use Rattle.ifl_desc.proofs.AfterSteps.{grew_sent, grew_known, grew_prefix, kept_sent, more_known}
 use Rattle.ifl_desc.proofs.Closing.{prefix_trans}
@@ -26,9 +26,6 @@ needed_one n h = omega arith
 
 pub needed_more : (n : ℕ) → 2048 < n → needed n ≡ suc (needed (n - 2048))
 needed_more n h = omega arith
-
-pub some_needed : (n : ℕ) → 0 < needed n
-some_needed n = omega arith
 
 pub filled_more : (t : Ticket) (s : Stamp) (ds : List Desc) (d : Desc) → AreFilled t s ds → d.ticket ≡ t → d.stamp ≡ s → d.status ≡ Filled → AreFilled t s (ds ++ d ∷ [])
 filled_more t s [] d f x y z = (x, y, z, tt)
@@ -72,13 +69,6 @@ filling_none t s bytes a none = record {
 }
 
 module _ (t : Ticket) (s : Stamp) (bytes : List ℕ) (a b e : DeviceSees) (rest : List ℕ) (k : Filling t s bytes a b rest) (d : Desc) where
-  -- there is a buffer for it
-  pub filling_room : a.fetched + needed (length bytes) ≤ known Device a.seen → b.fetched < known Device b.seen
-  filling_room enough = let c = k.count in let n = some_needed (length rest) in let f = ap (λ (z : DeviceSees). z.fetched) k.same in let w = ap (λ (z : DeviceSees). known Device z.seen) k.same in omega arith
-
-  pub filling_start : a.fetched ≡ length (sent Device a.seen) → completed b ≡ b.fetched
-  filling_start start = let f = ap (λ (z : DeviceSees). z.fetched) k.same in let w = ap (λ (z : DeviceSees). length (sent Device z.seen)) k.same in omega arith
-
   -- one buffer more is full
   pub filling_more : (part more : List ℕ) → rest ≡ part ++ more → length part ≡ 2048 → 2048 < length rest → IsFilledAs t s part false d → Completes (record b { fetched = suc b.fetched }) d e → Filling t s bytes a e more
   filling_more part more cut full long f done =
@@ -162,14 +152,6 @@ module _ (e : RxSees) (k : IsRx e) where
     pub rx_sent_free : free_of (rx_of e.ring d) + length ds ≡ free_of e
     rx_sent_free = let f = ap (λ (z : DeviceSees). z.fetched) s.same in let n = s.known_not in let w = lawful.within in omega arith
 
-    -- a look, and then these
-    pub returns_then : (a : RxSees) → Returns [] a e → Returns ds a (rx_of e.ring d)
-    returns_then a r = record {
-      ring = r.ring;
-      looked = record { once = s.looks_not ∙ r.looked.once; then = r.looked.then; before = r.looked.before; after = prefix_trans r.looked.then e.device.seen d.seen r.looked.after s.goes_on; all = r.looked.all; still = s.known_not ∙ r.looked.still };
-      list_is = s.list_is ∙ ap (λ (z : List Desc). z ++ ds) (r.list_is ∙ append-nil (rx_returned a));
-    }
-
   -- the engine met the driver's end
   pub rx_met : (v : DriverSees) (v' : DriverSees) (d : DeviceSees) → Meets v e.device v' d → IsDevice d → IsRx (rx_of e.ring d)
   rx_met v v' d m lawful = record {
@@ -181,15 +163,6 @@ module _ (e : RxSees) (k : IsRx e) where
 
   pub rx_met_free : (v : DriverSees) (v' : DriverSees) (d : DeviceSees) → Meets v e.device v' d → free_of (rx_of e.ring d) ≡ free_of e
   rx_met_free v v' d m = let f = ap (λ (z : DeviceSees). z.fetched) m.device in let n = same_known Device d.seen e.device.seen m.device_own in omega arith
-
--- an engine that has stored nothing
-pub rx_new : (ring : TableId) (d : DeviceSees) → d ≡ record { ring = ring; seen = []; fetched = 0; ready = [] } → IsDevice d → IsRx (rx_of ring d)
-rx_new ring d is lawful = record {
-  own = ap (λ (z : DeviceSees). z.ring) is;
-  lawful = lawful;
-  ready = ap (λ (z : DeviceSees). z.ready) is;
-  fetched = ap (λ (z : DeviceSees). z.fetched) is ∙ sym (ap (λ (z : DeviceSees). length (sent Device z.seen)) is);
-}
 
 -- one buffer is filled, whichever proof says that its segment lies within a cluster
 pub filled_one : (t : Ticket) (s : Stamp) (bytes : List ℕ) (last : Bool) (a m e : DeviceSees) (number : ℕ) (seg : Segment) (fits : length seg.bytes ≤ 2048) → seg ≡ record { number = number; off = 0; bytes = bytes } → m ≡ record a { fetched = suc a.fetched }

@@ -1,5 +1,5 @@
 -- An engine whose port is set.
-use Rattle.std.proofs.Common.{◌≡◌, ◌≢◌, ℕ, suc, ◌+◌, ◌⊎◌, inl, inr, Bool, true, false, cond, nat_eq, Some, List, [], ◌∷◌, ◌++◌, sym, refl, ap, ◌∙◌, arith, append_assoc}
+use Rattle.std.proofs.Common.{◌≡◌, ◌≢◌, ℕ, suc, ◌⊎◌, inl, inr, Bool, true, false, cond, nat_eq, Some, List, [], ◌∷◌, ◌++◌, sym, refl, ap, ◌∙◌, arith, append_assoc}
 use Rattle.std.specs.Bool.{OnTrue, OnFalse}
 use Rattle.ifl_desc.specs.declared.port.PortState.{PortState}
 use Rattle.ifl_desc.specs.declared.port.PortState.TheVariants.{Up, Down, Flush}
@@ -7,7 +7,7 @@ use Rattle.ifl_desc.specs.Port.{last_after, state_of}
 use Rattle.ifl_device.specs.declared.point.Point.TheVariants as at
 use Rattle.ifl_device.specs.Outcomes.{emitted_in}
 use Rattle.ifl_device.specs.Engine.{EngineSees, IsEngine, outcomes}
-use Rattle.ifl_device.specs.Turns.{IsAt, stopped, with_sets, cut, cut_sets}
+use Rattle.ifl_device.specs.Turns.{IsAt, with_sets, cut, cut_sets}
 use Rattle.ifl_device.proofs.Following.{unlike}
 
 last_more : (p s : PortState) (xs : List PortState) → last_after p (xs ++ s ∷ []) ≡ s

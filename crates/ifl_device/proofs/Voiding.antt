@@ -11,7 +11,6 @@ use Rattle.ifl_desc.specs.Frames.{frames_of}
 use Rattle.ifl_device.specs.Adapter.{status_of, on_wire}
 use Rattle.ifl_device.specs.Outcomes.{aborted_in}
 use Rattle.ifl_device.specs.Engine.{EngineSees, IsEngine, Returns, outcomes, returned}
-use Rattle.ifl_device.specs.declared.point.Point.TheVariants as at
 use Rattle.ifl_device.specs.Turns.{LooksOnce, LooksNot, IsTold, MayEmit, MayVoid, MayEmpty, MayReturn, Resets}
 use Rattle.ifl_device.proofs.Outcomes.{on_wire_none}
 use Rattle.ifl_device.proofs.Moves.{SoFar, moves_on, moves_not, returns_both, looks_neither}

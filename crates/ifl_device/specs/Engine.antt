@@ -8,7 +8,7 @@ use Rattle.ifl_desc.specs.declared.desc.Desc.{Desc}
 use Rattle.ifl_desc.specs.declared.desc.Status.{Status}
 use Rattle.ifl_desc.specs.declared.history.Side.TheVariants.{Driver, Device}
 use Rattle.ifl_desc.specs.declared.port.PortState.TheVariants.{Flush}
-use Rattle.ifl_desc.specs.History.{sent, known}
+use Rattle.ifl_desc.specs.History.{sent}
 use Rattle.ifl_desc.specs.Ends.{DeviceSees, IsDevice}
 use Rattle.ifl_desc.specs.Port.{WriterState, state_of}
 use Rattle.ifl_device.specs.declared.plan.EnginePlan.{EnginePlan}

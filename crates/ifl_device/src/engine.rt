@@ -1,21 +1,18 @@
 //! The engine.
-ghost use Rattle.std.specs.Prelude.{◌≡◌, ◌≢◌, suc, ◌+◌, ◌<◌, ◌≤◌, ◌⊎◌, [], ◌∷◌, ◌++◌, ◌^◌, length, map, vec_capacity, true, false, cond};
+ghost use Rattle.std.specs.Prelude.{◌≡◌, ◌≢◌, suc, ◌<◌, ◌≤◌, ◌⊎◌, [], ◌∷◌, ◌^◌, length, map, vec_capacity, true, false, cond};
 ghost use Rattle.std.specs.Bool.{OnTrue, OnFalse};
 ghost use Rattle.ifl_desc.specs.declared.desc.Status.TheVariants.{Emitted};
-ghost use Rattle.ifl_desc.specs.declared.history.Side.TheVariants.{Device};
-ghost use Rattle.ifl_desc.specs.declared.history.Event.TheVariants.{Sent};
 ghost use Rattle.ifl_desc.specs.declared.port.PortState.TheVariants.{Up, Down, Flush};
-ghost use Rattle.ifl_desc.specs.History.{known};
-ghost use Rattle.ifl_desc.specs.Calls.{Grew};
-ghost use Rattle.ifl_desc.specs.Frames.{IsSettled, IsWholeFrame, frames_of};
+ghost use Rattle.ifl_desc.specs.Frames.{IsWholeFrame, frames_of};
 ghost use Rattle.ifl_desc.specs.Port.{all_set};
-ghost use Rattle.ifl_desc.specs.Ends.{IsDevice, completed};
 ghost use Rattle.ifl_pcap.specs.File.{written};
 ghost use Rattle.ifl_device.specs.Adapter.{captured, emitted_among, record_size, returned_as};
 ghost use Rattle.ifl_device.specs.declared.point.Point.TheVariants as at;
 ghost use Rattle.ifl_device.specs.Wire.{left_in};
 ghost use Rattle.ifl_device.specs.Engine.{IsEngine, IsStopped, Returns, engine_of, returned};
-ghost use Rattle.ifl_device.specs.Turns.{Turned, TriedOne, LooksOnce, LooksNot, IsTold, IsDrained, EndsFrame, Takes, IsAt, IsDue, IsHung, IsCut, StopsBefore, Reaches, MayEmit, MayVoid, IsVoid, MayEmpty, MayReturn, Resets, Empties, stopped, with_sets};
+ghost use Rattle.ifl_device.specs.Turns.{Turned, TriedOne, LooksOnce, LooksNot, IsTold, IsDrained, IsAt, MayEmit, MayVoid, IsVoid, MayEmpty, MayReturn, Resets, Empties, stopped, with_sets};
+
+mod due;
 
 use crate::frames::{give_back, take_frame};
 use crate::plan::{EngineOrigin, EnginePlan, Turn};
@@ -61,19 +58,6 @@ impl<'a, R: DescRing> Model for TxEngine<'a, R> {
 
     ghost invariant = { λ e. let x : EngineSees = engine_of (R.ring e.ring.now) e.port.now e.plan (R.device_sees e.device) (all_set e.writer) e.wire e.frame.items e.emitted e.cleared e.downs in
         IsEngine x × (64 ≤ vec_capacity e.frame) × OnTrue e.flushing (IsStopped x) × OnFalse e.flushing (IsStopped x → ⊥) };
-}
-
-// So many of `frames`, from `emitted` on, that they do not pass `number`.
-fn at_most(frames: u64, emitted: u64, number: u64) -> u64
-    ensures few { result ≤ frames }
-    ensures some { 1 ≤ frames → 1 ≤ result }
-    ensures stops { emitted < number → emitted + result ≤ number }
-    ensures reaches { result < frames → (emitted < number) × (emitted + result ≡ number) }
-{
-    if number > emitted && number - emitted < frames {
-        return number - emitted;
-    }
-    frames
 }
 
 impl<'a, R: DescRing> TxEngine<'a, R> {
@@ -135,48 +119,6 @@ impl<'a, R: DescRing> TxEngine<'a, R> {
             Point::Cutting => self.cut_turn(frames),
             Point::Emitting => self.emit_turn(frames),
         }
-    }
-
-    // At which point a turn is.
-    fn point(&self) -> Point
-        ensures point { IsAt result self.now }
-        ensures lawful { IsEngine self.now }
-    {
-        if self.flushing || self.is_due() {
-            return Point::Stopping;
-        }
-        if self.is_hung() {
-            return Point::Hanging;
-        }
-        if self.is_cut() {
-            return Point::Cutting;
-        }
-        Point::Emitting
-    }
-
-    // As many frames are emitted as the flush comes after.
-    fn is_due(&self) -> bool
-        ensures due { OnTrue result (IsDue self.now) }
-        ensures not_due { OnFalse result (IsDue self.now → ⊥) }
-    {
-        match self.plan.flush_after {
-            Some(n) => self.emitted >= n,
-            None => false,
-        }
-    }
-
-    fn is_hung(&self) -> bool
-        ensures hung { OnTrue result (IsHung self.now) }
-        ensures not_hung { OnFalse result (IsHung self.now → ⊥) }
-    {
-        self.plan.hang_after > 0 && self.emitted >= self.plan.hang_after && !self.cleared
-    }
-
-    fn is_cut(&self) -> bool
-        ensures lost { OnTrue result (IsCut self.now) }
-        ensures not_lost { OnFalse result (IsCut self.now → ⊥) }
-    {
-        self.plan.link_down_after > 0 && self.emitted >= self.plan.link_down_after && self.downs > 0
     }
 
     // Begins the flush, and returns every rung frame as flushed.
@@ -272,22 +214,6 @@ impl<'a, R: DescRing> TxEngine<'a, R> {
             }
         }
         Turn::Moved(limit)
-    }
-
-    // How many of `frames` may be emitted before a number of the plan is reached.
-    fn limit(&self, frames: u32) -> u32
-        requires { 1 ≤ frames }
-        ensures some { (1 ≤ result) × (result ≤ frames) }
-        ensures stops { StopsBefore self.now.plan self.now.emitted result }
-        ensures reaches { result < frames → Reaches self.now.plan self.now.emitted result }
-    {
-        let mut limit = frames as u64;
-        if let Some(n) = self.plan.flush_after {
-            limit = at_most(limit, self.emitted, n);
-        }
-        limit = at_most(limit, self.emitted, self.plan.hang_after);
-        limit = at_most(limit, self.emitted, self.plan.link_down_after);
-        limit as u32
     }
 
     // Looks at the doorbell once.

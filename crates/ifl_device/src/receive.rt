@@ -1,11 +1,10 @@
 //! The receive engine.
-ghost use Rattle.std.specs.Prelude.{◌≡◌, ◌+◌, ◌-◌, ◌<◌, ◌≤◌, ◌^◌, [], ◌∷◌, length, suc, List, Bool, true, false};
+ghost use Rattle.std.specs.Prelude.{◌≡◌, ◌+◌, ◌<◌, ◌≤◌, ◌^◌, [], length, suc, List};
 ghost use Rattle.ifl_desc.specs.declared.desc.Desc.{Desc as Entry};
 ghost use Rattle.ifl_desc.specs.declared.history.Side.TheVariants.{Device};
 ghost use Rattle.ifl_desc.specs.History.{known, sent};
 ghost use Rattle.ifl_desc.specs.Calls.{Completes, Meets};
 ghost use Rattle.ifl_desc.specs.Ends.{IsNewDevice, IsDevice, IsDriver, completed};
-ghost use Rattle.ifl_device.specs.Turns.{LooksOnce};
 ghost use Rattle.ifl_device.specs.Receive.{IsRx, IsStored, IsFilledAs, AreUnused, Sends, Returns, Arrived, Empties, needed, rx_of};
 
 use crate::arrive::Arrive;

@@ -1,4 +1,4 @@
-use Rattle.std.proofs.Common.{◌-◌, arith}
+use Rattle.std.proofs.Common.{arith}
 use Rattle.ifl_desc.specs.Ends.{DeviceSees}
 use Rattle.ifl_device.specs.Receive.{RxSees, IsRx, rx_of}
 use Rattle.ifl_device.proofs.Receiving.{rx_sent, rx_sent_free}

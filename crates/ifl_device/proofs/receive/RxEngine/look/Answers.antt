@@ -1,4 +1,4 @@
-use Rattle.std.proofs.Common.{◌-◌, ◌<◌, subst, arith, []}
+use Rattle.std.proofs.Common.{◌<◌, subst, arith, []}
 use Rattle.ifl_desc.specs.Ends.{DeviceSees}
 use Rattle.ifl_device.specs.Receive.{RxSees, IsRx, Returns, rx_of}
 use Rattle.ifl_device.proofs.Receiving.{free_few, rx_looked, rx_look_returns, rx_free}

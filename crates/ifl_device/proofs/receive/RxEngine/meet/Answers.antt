@@ -1,4 +1,4 @@
-use Rattle.std.proofs.Common.{◌-◌, ◌∙◌, sym}
+use Rattle.std.proofs.Common.{◌∙◌, sym}
 use Rattle.ifl_device.specs.Receive.{RxSees, IsRx, rx_of}
 use Rattle.ifl_device.proofs.Receiving.{rx_met, rx_met_free}
 use Rattle.ifl_device.proofs.receive.RxEngine.meet.Goals as goal
