@@ -56,7 +56,7 @@ fails-account : (files : Option Files) (Fault : Type 0) → Fault → IsAccount 
 fails-account None Fault fault = record { blamed = λ which name is. fault; told = tt }
 fails-account (Some fs) Fault fault = record { blamed = λ which name is. fault; told = λ which name. inl refl }
 
-pub for_bytes : (files : Option Files) (Fault : Type 0) (which : Input) (name : List ℕ) (limit : ℕ) (bytes : Vec ℕ) → length bytes.items ≤ limit → IfSome files (λ fs. IsFetch (held fs name) limit (fetch.Bytes bytes)) → ForAccount files Fault (λ source. IsRead bytes_of (Ok bytes) (file_at which limit (source which name)))
+pub for_bytes : (files : Option Files) (Fault : Type 0) (which : Input) (name : List ℕ) (limit : ℕ) (bytes : Vec ℕ) → length bytes.items ≤ limit → IfSome files (λ fs. IsFetch (held fs name) limit (fetch.Bytes bytes.items)) → ForAccount files Fault (λ source. IsRead bytes_of (Ok bytes) (file_at which limit (source which name)))
 for_bytes None Fault which name limit bytes short told = (finds None (Some bytes.items), finds-account None (Some bytes.items) Fault, file_at-within which limit bytes.items short)
 for_bytes (Some fs) Fault which name limit bytes short told = (finds (Some fs) None, finds-account (Some fs) None Fault, ap (λ (file : Option (List ℕ)). file_at which limit (gave file)) told.0 ∙ file_at-within which limit bytes.items told.1)
 

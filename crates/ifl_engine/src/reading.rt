@@ -52,7 +52,7 @@ pub fn read_file<H: Host>(
     ensures failed { IsReadFailed result → Rose (H.faults host.old) (H.faults host.new) }
 {
     match host.read(alloc, name, limit) {
-        Ok(Fetch::Bytes(bytes)) => Ok(bytes),
+        Ok(Fetch::Bytes(bytes)) => Ok(bytes.into_vec()),
         Ok(Fetch::Absent) => Err(Stop::Absent(which)),
         Ok(Fetch::TooLong) => Err(Stop::TooLong(which)),
         Err(HostError::Failed) => Err(Stop::ReadFailed(which)),
@@ -74,10 +74,10 @@ fn read_settings_file<H: Host>(
 {
     match &names.settings {
         None => Ok(None),
-        Some(name) => match read_file(alloc, Input::Settings, name.as_str(), SETTINGS_MAX, host) {
-            Ok(bytes) => Ok(Some(bytes)),
-            Err(stop) => Err(stop),
-        },
+        Some(name) => {
+            let bytes = read_file(alloc, Input::Settings, name.as_str(), SETTINGS_MAX, host)?;
+            Ok(Some(bytes))
+        }
     }
 }
 
@@ -90,13 +90,9 @@ fn read_files<H: Host>(alloc: Global, names: &SendWords, host: &mut H) -> Result
     ensures later { H.faults host.old ≤ H.faults host.new }
     ensures failed { IsReadFailed result → Rose (H.faults host.old) (H.faults host.new) }
 {
-    match read_settings_file(alloc, names, host) {
-        Err(stop) => Err(stop),
-        Ok(settings) => match read_file(alloc, Input::File, file_name(names), FILE_MAX, host) {
-            Err(stop) => Err(stop),
-            Ok(file) => Ok(Files { settings, file }),
-        },
-    }
+    let settings = read_settings_file(alloc, names, host)?;
+    let file = read_file(alloc, Input::File, file_name(names), FILE_MAX, host)?;
+    Ok(Files { settings, file })
 }
 
 /// The most bytes of a frame: as the settings file has it, or the standard.
@@ -135,13 +131,12 @@ fn loaded(alloc: Global, files: Files) -> Result<Load, Stop>
     ensures no_fault { IsReadFailed result → ⊥ }
 {
     let Files { settings, file } = files;
-    match max_frame(alloc, &settings) {
-        Err(stop) => Err(stop),
-        Ok(max_frame) => match parsed(alloc, file) {
-            Err(stop) => Err(stop),
-            Ok(capture) => Ok(Load { max_frame, capture }),
-        },
-    }
+    let limit = max_frame(alloc, &settings)?;
+    let capture = parsed(alloc, file)?;
+    Ok(Load {
+        max_frame: limit,
+        capture,
+    })
 }
 
 /// Reads the files of `send`. The capture owns its file's bytes.
@@ -153,8 +148,6 @@ pub fn gathered<H: Host>(alloc: Global, names: &SendWords, host: &mut H) -> Resu
     ensures later { H.faults host.old ≤ H.faults host.new }
     ensures failed { IsReadFailed result → Rose (H.faults host.old) (H.faults host.new) }
 {
-    match read_files(alloc, names, host) {
-        Ok(files) => loaded(alloc, files),
-        Err(stop) => Err(stop),
-    }
+    let files = read_files(alloc, names, host)?;
+    loaded(alloc, files)
 }

@@ -5,7 +5,7 @@ fn two_files(alloc: Global, lengths: &[u8], settings: &str) -> Result<Vec<FileEn
     let mut files = one_file(alloc, "f", capture_of(alloc, lengths)?)?;
     files.push(FileEntry {
         name: String::from_str(alloc, "s")?,
-        bytes: Vec::from_slice(alloc, settings.as_bytes())?,
+        bytes: Items::from_vec(Vec::from_slice(alloc, settings.as_bytes())?),
     })?;
     Ok(files)
 }
@@ -138,7 +138,7 @@ fn the_settings_file_is_read_first_and_looked_at_last(rt: HostRuntime) -> Result
         let mut files = two_files(alloc, &[60], "")?;
         files.push(FileEntry {
             name: String::from_str(alloc, "t")?,
-            bytes: Vec::from_slice(alloc, b"version")?,
+            bytes: Items::from_vec(Vec::from_slice(alloc, b"version")?),
         })?;
         let mut host = MemoryHost::new(alloc, files, Vec::from_slice(alloc, &[failing])?)?;
         let finished = run(&rt, alloc, &words_of(alloc, text)?, &mut host, &FreeGate);
@@ -156,7 +156,7 @@ fn the_settings_come_before_the_capture(rt: HostRuntime) -> Result<(), Fail> {
     let mut files = two_files(alloc, &[60], "version = 2\n")?;
     files.push(FileEntry {
         name: String::from_str(alloc, "t")?,
-        bytes: Vec::from_slice(alloc, b"no capture")?,
+        bytes: Items::from_vec(Vec::from_slice(alloc, b"no capture")?),
     })?;
     let mut host = MemoryHost::new(alloc, files, Vec::new(alloc))?;
     assert_eq!(rt; run(&rt, alloc, &words, &mut host, &FreeGate).status, 2);

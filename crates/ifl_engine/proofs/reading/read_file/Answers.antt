@@ -4,9 +4,9 @@ use Rattle.ifl_engine.proofs.reading.read_file.Goals as goal
 
 pub returns-in-Ok-Bytes-clause-read : goal.returns-in-Ok-Bytes-clause-read
 returns-in-Ok-Bytes-clause-read g c =
-    let told = rw c.in-Ok-Bytes.field-0-is at c.in-Ok-Bytes.ensures.fetched in
-    let within = rw c.in-Ok-Bytes.field-0-is at c.in-Ok-Bytes.ensures.within in
-    for_bytes (g.H.Host.files c.args.host.now) _ c.args.which c.args.name.now c.args.limit c.in-Ok-Bytes.bytes within told
+    let told = rw (c.in-Ok-Bytes.field-0-is, ← c.into_vec.ensures) at c.in-Ok-Bytes.ensures.fetched in
+    let within = rw (c.in-Ok-Bytes.field-0-is, ← c.into_vec.ensures) at c.in-Ok-Bytes.ensures.within in
+    for_bytes (g.H.Host.files c.args.host.now) _ c.args.which c.args.name.now c.args.limit c.into_vec.result within told
 
 pub returns-in-Ok-Absent-clause-read : goal.returns-in-Ok-Absent-clause-read
 returns-in-Ok-Absent-clause-read g c = let told = rw c.in-Ok-Absent.field-0-is at c.in-Ok-Absent.ensures.fetched in for_absent (g.H.Host.files c.args.host.now) _ c.args.which c.args.name.now c.args.limit told
