@@ -1,0 +1,13 @@
+pub mod Needs
+pub mod Meanings
+pub mod Steps
+pub mod Frames
+pub mod Sent
+pub mod Hands
+pub mod Obtains
+pub mod Ready
+pub mod Runs
+pub mod Runners
+pub mod Jobs
+pub mod Works
+pub mod Loads
