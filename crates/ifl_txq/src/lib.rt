@@ -20,6 +20,8 @@ mod reclaim;
 mod send;
 mod sent;
 mod tally;
+#[cfg(test)]
+mod tests;
 
 pub use encap::Encap;
 pub use item::Item;

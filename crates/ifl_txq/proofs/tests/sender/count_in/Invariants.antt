@@ -1,0 +1,8 @@
+use Rattle.std.proofs.Common.{◌≡◌}
+use Rattle.ifl_txq.proofs.tests.sender.count_in.Given as goal
+
+abbrev pub invariant-loop : goal.invariant-loop
+invariant-loop g l = (l.pass.pool ≡ l.pool) × (l.pass.known.part ≡ l.fn.pass.known.part)
+
+abbrev pub invariant-loop-cluster : goal.invariant-loop-cluster
+invariant-loop-cluster g l = (l.pass.pool ≡ l.pool) × (l.pass.known.part ≡ l.fn.pass.known.part)
