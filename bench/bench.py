@@ -185,7 +185,7 @@ def median(runs, name, what):
 def shown(runs, name, what):
     """A median in milliseconds, and its ratios to those of the peers."""
     found = median(runs, name, what)
-    ratios = [f"{found / median(runs, peer, what):4.2f} of {peer}" for peer in PEERS if peer in runs and peer != name]
+    ratios = [f"{found / median(runs, peer, what):4.2f} times {peer}" for peer in PEERS if peer in runs and peer != name]
     return f"{found * 1000:7.1f} ms" + (f" ({', '.join(ratios)})" if ratios else "")
 
 
