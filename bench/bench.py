@@ -144,21 +144,22 @@ def serving(commands, captures, folder):
 
 
 def judge(name, wire, order, captures):
-    """Judges what a tool wrote, in a process of its own: this one's memory would count as a peak of the runs to come."""
+    """Judges what a tool wrote, in a process of its own: its memory would count as a peak of the runs to come."""
     script = os.path.join(TOP, "bench", "judge.py")
-    done = subprocess.run([sys.executable, script, "--wire", wire, "--order", order, *captures], capture_output=True, text=True, check=False)
+    command = [sys.executable, script, "--wire", wire, "--order", order, *captures]
+    done = subprocess.run(command, capture_output=True, text=True, check=False)
     if done.returncode != 0:
         sys.exit(f"{name} wrote other files than it should: {done.stdout.strip()}")
 
 
 def measure(one, rounds, folder, same_design):
-    print(f"{one.frames:,} frames of {one.about} in {one.captures} {'capture' if one.captures == 1 else 'captures'}", end="")
+    title = f"{one.frames:,} frames of {one.about} in {one.captures} {'capture' if one.captures == 1 else 'captures'}"
     captures = []
     for sender in range(one.captures):
         captures.append(os.path.join(folder, f"capture{sender}"))
         write_capture(captures[-1], one.make(sender, one.frames // one.captures))
     size = sum(map(os.path.getsize, captures)) / 2**20
-    print(f": {size:.1f} MB")
+    print(f"{title}: {size:.1f} MB")
     commands = serving(tools(captures, folder, same_design), captures, folder)
     runs = {name: [] for name in commands}
     for _ in range(rounds):

@@ -37,7 +37,9 @@ POLICIES = ("retry", "drop")
 KINDS = ("legacy", "writeback", "generation")
 SECONDS = 60
 FRAMES = 1_500
-COUNTERS = ("frames", "wire", "wire_bytes", "runt", "oversize", "no_buffers", "no_clusters", "too_many_segments", "reset", "flush")
+COUNTERS = (
+    "frames", "wire", "wire_bytes", "runt", "oversize", "no_buffers", "no_clusters", "too_many_segments", "reset", "flush"
+)
 
 
 def drawn_frames(source, count):
@@ -141,7 +143,9 @@ class Results:
 
     def text(self):
         runs = len(self.times) + self.failures
-        times = f"median {statistics.median(self.times) * 1000:.1f} ms, longest {max(self.times) * 1000:.1f} ms" if self.times else "no times"
+        times = "no times"
+        if self.times:
+            times = f"median {statistics.median(self.times) * 1000:.1f} ms, longest {max(self.times) * 1000:.1f} ms"
         lines = ", ".join(f"{name} {count}" for name, count in sorted(self.counts.items()))
         return f"{runs} runs, {self.failures} failures, {times}; {lines or 'no lines'}"
 

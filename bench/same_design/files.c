@@ -1,4 +1,4 @@
-/* Files: captures in the form that is written here, the lowest byte first and with microseconds, and what a run writes. */
+/* Files: captures in one form, the lowest byte first and with microseconds, and what a run writes. */
 #include "design.h"
 
 #include <fcntl.h>
