@@ -1,0 +1,55 @@
+//! Packets of one segment, whose bytes and stamp tell their number.
+ghost use Rattle.std.specs.Prelude.{◌≡◌, ◌≤◌, ◌+◌, ◌∷◌, [], length};
+
+use byteorder::{ByteOrder, LittleEndian};
+use ifl_base::{Stamp, Ticket};
+use ifl_mbuf::{Chain, Cluster, Packet, Seg};
+use ifl_pool::{Pool, PoolPass};
+use ifl_txq::Item;
+use std::collections::VecDeque;
+use std::process::Abort;
+use std::sync::Wait;
+use std::test::*;
+
+/// The stamp of the frame with this number.
+pub fn stamp(index: u32) -> Stamp {
+    Stamp {
+        sec: index,
+        usec: 2,
+        orig: 60,
+    }
+}
+
+/// The 60 bytes of the frame with this number.
+pub fn bytes(index: u32) -> [u8; 60] {
+    let mut bytes = [7; 60];
+    LittleEndian::write_u32(&mut bytes, index);
+    bytes
+}
+
+/// The packet with this number.
+pub fn packet(cluster: Cluster, index: u32) -> Packet {
+    let mut chain = Chain::new();
+    chain.push(Seg::fill(cluster, &bytes(index)));
+    Packet::new(Ticket { sender: 0, index }, stamp(index), chain)
+}
+
+/// Lays the packets with these numbers into the batch. Their clusters come out of the pool.
+pub fn load<W: Wait + Abort>(
+    rt: &W,
+    pool: &Pool,
+    pass: &mut PoolPass,
+    batch: &mut VecDeque<Item>,
+    first: u32,
+    count: u32,
+) -> Result<(), Fail>
+    requires own { pass.old.pool ≡ pool.now }
+    requires few { first + count ≤ 10000 }
+    ensures { (pass.new.pool ≡ pool.now) × (pass.new.known.part ≡ pass.old.known.part) }
+{
+    for index in first..first + count {
+        let cluster = pool.take(rt, pass).expect(rt, "the pool has enough");
+        batch.push_back(Item::Packet(packet(cluster, index)))?;
+    }
+    Ok(())
+}
