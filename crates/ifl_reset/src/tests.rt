@@ -2,21 +2,23 @@
 ghost use Rattle.std.specs.Prelude.{◌≡◌, ◌≤◌, ◌<◌, ◌+◌, ◌-◌, ◌/◌, ◌∷◌, [], length, true, false, IfOk};
 ghost use Rattle.ifl_base.specs.declared.limits.TheConstants.{PART};
 ghost use Rattle.ifl_pool.specs.Passes.{new_known};
-ghost use Rattle.ifl_desc.specs.Ends.{IsNewDriver, IsNewDevice};
+ghost use Rattle.ifl_desc.specs.Ends.{IsNewDriver, IsNewDevice, posted};
 ghost use Rattle.ifl_desc.specs.Port.{writer_of, reader_of};
 ghost use Rattle.ifl_device.specs.Engine.{IsEngine};
 ghost use Rattle.ifl_txq.specs.Queue.{IsQueue, IsRung};
 ghost use Rattle.ifl_txq.specs.Standing.{QueueStandsFor};
 
+mod beside;
 mod hand;
 mod packets;
 mod plans;
+mod resting;
 
 use ifl_base::NoMemory;
 use ifl_desc::{DescRing, Port, PortReader, PortWriter};
 use ifl_device::{EnginePlan, TxEngine, WireBuffer};
 use ifl_pool::{Pool, PoolPass};
-use ifl_txq::{Log, Txq};
+use ifl_txq::{Log, OrderLine, Txq, TxqEnds};
 use std::alloc::Global;
 use std::process::Abort;
 use std::sync::Wait;
@@ -104,7 +106,7 @@ fn make_queue<'a, R: DescRing>(
     requires pool { ends.pass.pool ≡ shared.now.pool }
     requires pass { ends.pass.known ≡ new_known ends.pass.known.number (PART / 2) }
     requires packets { packets ≤ 1000000 }
-    ensures queue { IfOk result (λ t. IsRung t.0.driver × QueueStandsFor t.0 []) }
+    ensures queue { IfOk result (λ t. (t.0.pool ≡ shared.now.pool) × (t.0.pass.known.part ≡ PART / 2) × IsRung t.0.driver × QueueStandsFor t.0 []) }
     ensures plan { IfOk result (λ t. t.1.plan ≡ plan) }
 {
     let log = Log::new(alloc, &[packets])?;
@@ -117,7 +119,23 @@ fn make_queue<'a, R: DescRing>(
         writer,
     } = ends;
     let Shared { ring, port, pool } = shared;
-    let queue = Txq::new(ring, driver, port, reader, pool, pass, log, 4, 4);
+    let queue = Txq::new(ring, driver, port, reader, pool, pass, log, 1, 4);
     let engine = TxEngine::new(ring, device, port, writer, wire, plan);
     Ok((queue, engine))
+}
+
+/// What a queue leaves whose packets all have their fates: the order record, and its pass of the pool.
+fn leave<R: DescRing, W: Abort>(rt: &W, queue: Txq<'_, R>) -> (Vec<OrderLine>, PoolPass)
+    requires settled { IsRung queue.driver }
+    requires done { posted queue.driver ≡ queue.driver.back }
+    ensures pass { result.1 ≡ queue.entry.pass }
+{
+    assert!(rt; queue.tally().aboard == 0);
+    let TxqEnds {
+        driver: _,
+        reader: _,
+        pass,
+        log,
+    } = queue.close();
+    (log.into_lines(), pass)
 }

@@ -1,35 +1,19 @@
 //! An engine that is led by hand.
 ghost use Rattle.std.specs.Prelude.{◌≡◌, ◌≤◌, [], true, false};
-ghost use Rattle.ifl_txq.specs.Queue.{IsRung};
 ghost use Rattle.ifl_reset.specs.Served.{IsByHand};
 
-use super::packets::load;
+use super::packets::{load, offer};
 use super::{BY_HAND, make, make_queue};
 use crate::{Served, reset, serve, set_link, stop_flush};
 use ifl_desc::{DescRing, Taken, TurnSeat, Turnstile};
 use ifl_device::TxEngine;
-use ifl_ring::Drainer;
-use ifl_txq::{Item, Tally, Txq};
+use ifl_txq::Tally;
 use ifl_writeback::WritebackRing;
 use std::alloc::Global;
 use std::collections::VecDeque;
 use std::process::Abort;
 use std::sync::Wait;
 use std::test::*;
-
-/// Offers a batch to the queue, and answers how many of its items it took.
-fn offer<R: DescRing, W: Wait + Abort>(
-    rt: &W,
-    queue: &mut Txq<'_, R>,
-    batch: &mut VecDeque<Item>,
-) -> u32
-    requires { IsRung queue.old.driver }
-    ensures { IsRung queue.new.driver }
-{
-    let count = batch.len();
-    assert!(rt; 1 <= count && count <= 32);
-    queue.drain(rt, batch)
-}
 
 /// While another seat has the turn, each call finds it taken.
 fn find_it_taken<'a, R: DescRing, W: Abort>(

@@ -1,11 +1,14 @@
 //! Packets of one segment, whose bytes and stamp tell their number.
-ghost use Rattle.std.specs.Prelude.{◌≡◌, ◌≤◌, ◌+◌, ◌∷◌, [], length};
+ghost use Rattle.std.specs.Prelude.{◌≡◌, ◌≤◌, ◌+◌};
+ghost use Rattle.ifl_txq.specs.Queue.{IsRung};
 
 use byteorder::{ByteOrder, LittleEndian};
 use ifl_base::{Stamp, Ticket};
+use ifl_desc::DescRing;
 use ifl_mbuf::{Chain, Cluster, Packet, Seg};
 use ifl_pool::{Pool, PoolPass};
-use ifl_txq::Item;
+use ifl_ring::Drainer;
+use ifl_txq::{Item, Txq};
 use std::collections::VecDeque;
 use std::process::Abort;
 use std::sync::Wait;
@@ -52,4 +55,18 @@ pub fn load<W: Wait + Abort>(
         batch.push_back(Item::Packet(packet(cluster, index)))?;
     }
     Ok(())
+}
+
+/// Offers a batch to the queue, and answers how many of its items it took.
+pub fn offer<R: DescRing, W: Wait + Abort>(
+    rt: &W,
+    queue: &mut Txq<'_, R>,
+    batch: &mut VecDeque<Item>,
+) -> u32
+    requires { IsRung queue.old.driver }
+    ensures { IsRung queue.new.driver }
+{
+    let count = batch.len();
+    assert!(rt; 1 <= count && count <= 32);
+    queue.drain(rt, batch)
 }

@@ -1,0 +1,355 @@
+//! An engine is reset, cut off and stopped while packets are sent.
+ghost use Rattle.std.specs.Prelude.{◌≡◌, ◌≤◌, ◌-◌, ◌/◌, [], false, length, IfOk};
+ghost use Rattle.std.specs.VecDeque.{deque_capacity};
+ghost use Rattle.ifl_base.specs.declared.limits.TheConstants.{PART};
+ghost use Rattle.ifl_pool.specs.Passes.{new_known};
+ghost use Rattle.ifl_desc.specs.Ends.{IsNewDriver, IsNewDevice};
+ghost use Rattle.ifl_desc.specs.Port.{writer_of, reader_of};
+ghost use Rattle.ifl_reset.specs.Served.{IsByHand};
+
+use super::packets::{bytes, packet, stamp};
+use super::{BY_HAND, Ends, Shared, leave, make, make_queue};
+use crate::{empty_out, quiesce, reset, serve, set_link, stop_flush};
+use ifl_base::Fate;
+use ifl_desc::{DescRing, TurnSeat, Turnstile};
+use ifl_device::TxEngine;
+use ifl_outside::FreeGate;
+use ifl_pcap::{CaptureBuilder, Frame, write_capture};
+use ifl_pool::{Pool, PoolPass};
+use ifl_ring::{Enqueued, Ring, Seat};
+use ifl_txq::{Item, OrderLine, Txq};
+use ifl_writeback::WritebackRing;
+use std::alloc::Global;
+use std::collections::VecDeque;
+use std::process::Abort;
+use std::sync::Wait;
+use std::sync::atomic::{AtomicU64, Ordering};
+use std::test::*;
+use std::thread::{Threads, join, yield_now};
+
+/// How many packets are sent.
+const PACKETS: u32 = 10_000;
+
+/// How many of them are sent when the engine is stopped.
+const BEFORE_STOP: u64 = 9_000;
+
+/// How many are sent between two resets.
+const BETWEEN: u64 = 50;
+
+/// More clusters than the ring has places and the adapter slots.
+const CLUSTERS: u32 = 64;
+
+/// What the two threads share.
+#[derive(Drop)]
+struct Line<'a, R: DescRing> {
+    ring: Ring<Txq<'a, R>>,
+    turnstile: Turnstile<TxEngine<'a, R>>,
+    pool: &'a Pool,
+    sent: AtomicU64,
+}
+
+/// What the sender has of it.
+#[derive(Drop)]
+struct Sender<'a, R: DescRing> {
+    seat: Seat<Txq<'a, R>>,
+    turn: TurnSeat<TxEngine<'a, R>>,
+    pass: PoolPass,
+    items: VecDeque<Item>,
+}
+
+/// Publishes the packet that lies in `items`, as often as there is no room for it.
+fn publish<'a, R: DescRing, W: Wait>(rt: &W, line: &Line<'a, R>, sender: &mut Sender<'a, R>)
+    requires own { (sender.old.seat.table ≡ line.now.ring.table) × (sender.old.turn.turnstile ≡ line.now.turnstile) × (sender.old.turn.held ≡ false) × (sender.old.pass.pool ≡ line.now.pool.now) }
+    requires one { (length sender.old.items.items ≡ 1) × (1 ≤ deque_capacity sender.old.items) }
+    ensures own { (sender.new.seat.table ≡ line.now.ring.table) × (sender.new.turn.turnstile ≡ line.now.turnstile) × (sender.new.turn.held ≡ false) × (sender.new.pass.pool ≡ line.now.pool.now) }
+    ensures part { (sender.new.seat.known.part ≡ sender.old.seat.known.part) × (sender.new.turn.part ≡ sender.old.turn.part) × (sender.new.pass.known.part ≡ sender.old.pass.known.part) }
+    ensures items { (sender.new.items.items ≡ []) × (1 ≤ deque_capacity sender.new.items) }
+{
+    for _ in rt.forever() {
+        match line.ring.enqueue(
+            rt,
+            &mut sender.seat,
+            0,
+            &mut sender.items,
+            32,
+            false,
+            &FreeGate,
+        ) {
+            Enqueued::NoBuffers { seen: _ } => {
+                serve(&line.turnstile, &mut sender.turn, 8);
+                line.ring.check_drainage(rt, &mut sender.seat, 32);
+                yield_now();
+            }
+            Enqueued::Behind => return,
+            Enqueued::Abdicated => return,
+            Enqueued::Drained { left: _, total: _ } => return,
+        }
+    }
+    unreachable!()
+}
+
+/// Sends all packets, serves behind each eighth of them, and tells how many were sent.
+fn send<'a, R: DescRing, W: Wait + Abort>(
+    rt: &W,
+    line: &Line<'a, R>,
+    sender: Sender<'a, R>,
+) -> Sender<'a, R>
+    requires own { (sender.seat.table ≡ line.now.ring.table) × (sender.turn.turnstile ≡ line.now.turnstile) × (sender.turn.held ≡ false) × (sender.pass.pool ≡ line.now.pool.now) }
+    requires items { (sender.items.items ≡ []) × (1 ≤ deque_capacity sender.items) }
+    ensures own { (result.seat.table ≡ line.now.ring.table) × (result.turn.turnstile ≡ line.now.turnstile) × (result.turn.held ≡ false) × (result.pass.pool ≡ line.now.pool.now) }
+    ensures part { (result.seat.known.part ≡ sender.seat.known.part) × (result.turn.part ≡ sender.turn.part) × (result.pass.known.part ≡ sender.pass.known.part) }
+    ensures items { (result.items.items ≡ []) × (1 ≤ deque_capacity result.items) }
+{
+    let mut sender = sender;
+    for index in 0..PACKETS {
+        let cluster = line
+            .pool
+            .take(rt, &mut sender.pass)
+            .expect(rt, "the pool has enough");
+        sender
+            .items
+            .push_back_reserved(Item::Packet(packet(cluster, index)));
+        publish(rt, line, &mut sender);
+        if index % 8 == 7 {
+            serve(&line.turnstile, &mut sender.turn, 8);
+        }
+        line.sent.fetch_add(1, Ordering::SeqCst);
+    }
+    sender
+}
+
+/// Waits until so many packets are sent.
+fn await_sent<R: DescRing, W: Wait>(rt: &W, line: &Line<'_, R>, count: u64) {
+    for _ in rt.forever() {
+        if line.sent.load(Ordering::SeqCst) >= count {
+            return;
+        }
+        yield_now();
+    }
+    unreachable!()
+}
+
+/// Sets the link, once the turn is free.
+fn link<'a, R: DescRing, W: Wait>(
+    rt: &W,
+    line: &Line<'a, R>,
+    seat: &mut TurnSeat<TxEngine<'a, R>>,
+    up: bool,
+)
+    requires own { (seat.old.turnstile ≡ line.now.turnstile) × (seat.old.held ≡ false) }
+    requires by_hand { IsByHand line.now.turnstile.origin }
+    ensures own { (seat.new.turnstile ≡ line.now.turnstile) × (seat.new.held ≡ false) }
+    ensures part { seat.new.part ≡ seat.old.part }
+{
+    for _ in rt.forever() {
+        if set_link(&line.turnstile, seat, up).is_ok() {
+            return;
+        }
+        yield_now();
+    }
+    unreachable!()
+}
+
+/// Stops, once the turn is free.
+fn stop<'a, R: DescRing, W: Wait>(rt: &W, line: &Line<'a, R>, seat: &mut TurnSeat<TxEngine<'a, R>>)
+    requires own { (seat.old.turnstile ≡ line.now.turnstile) × (seat.old.held ≡ false) }
+    requires by_hand { IsByHand line.now.turnstile.origin }
+    ensures own { (seat.new.turnstile ≡ line.now.turnstile) × (seat.new.held ≡ false) }
+    ensures part { seat.new.part ≡ seat.old.part }
+{
+    for _ in rt.forever() {
+        if stop_flush(&line.turnstile, seat).is_ok() {
+            return;
+        }
+        yield_now();
+    }
+    unreachable!()
+}
+
+/// Resets, and takes the link down and up, again and again, and stops at the end.
+fn lead<'a, R: DescRing, W: Wait>(
+    rt: &W,
+    line: &Line<'a, R>,
+    seat: TurnSeat<TxEngine<'a, R>>,
+) -> TurnSeat<TxEngine<'a, R>>
+    requires own { (seat.turnstile ≡ line.now.turnstile) × (seat.held ≡ false) }
+    requires by_hand { IsByHand line.now.turnstile.origin }
+    ensures own { (result.turnstile ≡ line.now.turnstile) × (result.held ≡ false) }
+    ensures part { result.part ≡ seat.part }
+{
+    let mut seat = seat;
+    for round in 1..BEFORE_STOP / BETWEEN {
+        await_sent(rt, line, round * BETWEEN);
+        let _ = reset(&line.turnstile, &mut seat);
+        link(rt, line, &mut seat, false);
+        yield_now();
+        link(rt, line, &mut seat, true);
+    }
+    await_sent(rt, line, BEFORE_STOP);
+    stop(rt, line, &mut seat);
+    seat
+}
+
+/// Both threads. The sender has the whole turn seat at the end.
+fn both<'a, R: DescRing, W: Threads + Wait + Abort + Sync>(
+    rt: &W,
+    line: &Line<'a, R>,
+    sender: Sender<'a, R>,
+) -> Sender<'a, R>
+    requires own { (sender.seat.table ≡ line.now.ring.table) × (sender.turn.turnstile ≡ line.now.turnstile) × (sender.turn.held ≡ false) × (sender.pass.pool ≡ line.now.pool.now) }
+    requires by_hand { IsByHand line.now.turnstile.origin }
+    requires part { 2 ≤ sender.turn.part }
+    requires items { (sender.items.items ≡ []) × (1 ≤ deque_capacity sender.items) }
+    ensures own { (result.seat.table ≡ line.now.ring.table) × (result.turn.turnstile ≡ line.now.turnstile) × (result.turn.held ≡ false) × (result.pass.pool ≡ line.now.pool.now) }
+    ensures part { (result.seat.known.part ≡ sender.seat.known.part) × (result.turn.part ≡ sender.turn.part) × (result.pass.known.part ≡ sender.pass.known.part) }
+    ensures items { (result.items.items ≡ []) × (1 ≤ deque_capacity result.items) }
+{
+    let mut sender = sender;
+    let seat = line.turnstile.split(&mut sender.turn);
+    let (mut sender, seat) = join(
+        rt,
+        move ||
+            requires { (sender.seat.table ≡ line.now.ring.table) × (sender.turn.turnstile ≡ line.now.turnstile) × (sender.turn.held ≡ false) × (sender.pass.pool ≡ line.now.pool.now) × (sender.items.items ≡ []) × (1 ≤ deque_capacity sender.items) }
+            ensures { (result.seat.table ≡ line.entry.now.ring.table) × (result.turn.turnstile ≡ line.entry.now.turnstile) × (result.turn.held ≡ false) × (result.pass.pool ≡ line.entry.now.pool.now) × ((result.seat.known.part ≡ sender.seat.known.part) × (result.turn.part ≡ sender.turn.part) × (result.pass.known.part ≡ sender.pass.known.part)) × (result.items.items ≡ []) × (1 ≤ deque_capacity result.items) }
+        { send(rt, line, sender) },
+        move ||
+            requires { (seat.turnstile ≡ line.now.turnstile) × (seat.held ≡ false) × IsByHand line.now.turnstile.origin }
+            ensures { (result.turnstile ≡ line.entry.now.turnstile) × (result.held ≡ false) × (result.part ≡ seat.part) }
+        { lead(rt, line, seat) },
+    );
+    line.turnstile.join(&mut sender.turn, seat);
+    sender
+}
+
+/// The capture of the packets that were emitted.
+fn emitted(alloc: Global, lines: &[OrderLine]) -> Result<Vec<u8>, Fail> {
+    let mut builder = CaptureBuilder::new(alloc);
+    for line in lines {
+        if line.fate == Fate::Wire {
+            let index = line.ticket.index;
+            builder.push(&Frame::new(stamp(index), &bytes(index)))?;
+        }
+    }
+    Ok(write_capture(alloc, &builder.finish())?)
+}
+
+/// Each packet came back once, in the order in which they were sent.
+fn assert_once<W: Abort>(rt: &W, lines: &[OrderLine]) {
+    assert_eq!(rt; lines.len(), PACKETS as usize);
+    for (line, index) in lines.iter().zip(0..PACKETS) {
+        assert_eq!(rt; (line.ticket.sender, line.ticket.index), (0, index));
+        assert!(rt; line.fate != Fate::TooManySegments);
+    }
+}
+
+/// Brings all to rest, and compares the order record with what is on the wire. The pass is the queue's and the sender's.
+fn conclude<'a, R: DescRing, W: Wait + Abort>(
+    rt: &W,
+    alloc: Global,
+    line: Line<'a, R>,
+    sender: Sender<'a, R>,
+) -> Result<PoolPass, Fail>
+    requires own { (sender.seat.table ≡ line.ring.table) × (sender.turn.turnstile ≡ line.turnstile) × (sender.turn.held ≡ false) × (sender.pass.pool ≡ line.pool.now) }
+    requires whole { (sender.seat.known.part ≡ PART) × (sender.turn.part ≡ PART) }
+    requires pass { sender.pass.known.part ≡ PART - PART / 2 }
+    requires queue { (line.ring.origin.pool ≡ line.pool.now) × (line.ring.origin.part ≡ PART / 2) }
+    requires items { (sender.items.items ≡ []) × (1 ≤ deque_capacity sender.items) }
+    ensures pool { IfOk result (λ p. (p.pool ≡ line.entry.pool.now) × (p.known.part ≡ PART)) }
+{
+    let Sender {
+        mut seat,
+        mut turn,
+        mut pass,
+        mut items,
+    } = sender;
+    quiesce(
+        rt,
+        &line.ring,
+        &mut seat,
+        &line.turnstile,
+        &mut turn,
+        4,
+        &mut items,
+        &FreeGate,
+    );
+    let Line {
+        ring,
+        turnstile,
+        pool,
+        sent: _,
+    } = line;
+    let (closed, mut queue) = ring.close(seat);
+    assert!(rt; closed.left().is_empty());
+    let mut engine = turnstile.close(turn);
+    empty_out(rt, &mut queue, &mut engine, 4);
+    let (_, _, wire) = engine.close();
+    let (lines, own) = leave(rt, queue);
+    assert_once(rt, &lines);
+    assert!(rt; wire.as_slice() == emitted(alloc, &lines)?.as_slice());
+    pool.join(&mut pass, own);
+    Ok(pass)
+}
+
+/// Sends all packets beside a leading hand, and answers the whole pass.
+fn send_all<R: DescRing, W: Threads + Wait + Abort + Sync>(
+    rt: &W,
+    alloc: Global,
+    shared: &Shared<R>,
+    ends: Ends<R>,
+    pass: PoolPass,
+) -> Result<PoolPass, Fail>
+    requires size { (R.ring shared.now.ring).slots ≡ 32 }
+    requires ring { IsNewDriver (R.ring shared.now.ring) (R.driver_sees ends.driver) × IsNewDevice (R.ring shared.now.ring) (R.device_sees ends.device) }
+    requires port { (ends.reader ≡ reader_of shared.now.port []) × (ends.writer ≡ writer_of shared.now.port []) }
+    requires pool { (ends.pass.pool ≡ shared.now.pool) × (pass.pool ≡ shared.now.pool) }
+    requires pass { ends.pass.known ≡ new_known ends.pass.known.number (PART / 2) }
+    requires rest { pass.known.part ≡ PART - PART / 2 }
+    ensures pool { IfOk result (λ p. (p.pool ≡ shared.now.pool) × (p.known.part ≡ PART)) }
+{
+    let (queue, engine) = make_queue(alloc, shared, ends, PACKETS, BY_HAND)?;
+    let Ok((turnstile, turn)) = Turnstile::new(alloc, engine) else {
+        panic!(rt; "no memory")
+    };
+    let Ok((ring, seat)) = Ring::new(alloc, 16, queue) else {
+        panic!(rt; "no ring was made")
+    };
+    let line = Line {
+        ring,
+        turnstile,
+        pool: &shared.pool,
+        sent: AtomicU64::new(0),
+    };
+    let items = VecDeque::with_capacity(alloc, 1)?;
+    let sender = both(
+        rt,
+        &line,
+        Sender {
+            seat,
+            turn,
+            pass,
+            items,
+        },
+    );
+    conclude(rt, alloc, line, sender)
+}
+
+/// It is done over a new ring, port and pool. All clusters are back.
+fn send_beside<R: DescRing, W: Threads + Wait + Abort + Sync>(
+    rt: &W,
+    alloc: Global,
+) -> Result<(), Fail> {
+    let (shared, ends, pass) = make::<R, W>(rt, alloc, 32, CLUSTERS)?;
+    let whole = send_all(rt, alloc, &shared, ends, pass)?;
+    let Shared {
+        ring: _,
+        port: _,
+        pool,
+    } = shared;
+    assert_eq!(rt; pool.close(rt, whole).count(), CLUSTERS);
+    Ok(())
+}
+
+#[test]
+fn each_packet_comes_back_once(rt: HostRuntime) -> Result<(), Fail> {
+    send_beside::<WritebackRing, _>(&rt, rt.alloc())
+}
