@@ -97,7 +97,7 @@ fn send<'a, R: DescRing, W: Wait + Abort>(
     requires own { (sender.seat.table ≡ line.now.ring.table) × (sender.turn.turnstile ≡ line.now.turnstile) × (sender.turn.held ≡ false) × (sender.pass.pool ≡ line.now.pool.now) }
     requires items { (sender.items.items ≡ []) × (1 ≤ deque_capacity sender.items) }
     ensures own { (result.seat.table ≡ line.now.ring.table) × (result.turn.turnstile ≡ line.now.turnstile) × (result.turn.held ≡ false) × (result.pass.pool ≡ line.now.pool.now) }
-    ensures part { (result.seat.known.part ≡ sender.seat.known.part) × (result.turn.part ≡ sender.turn.part) × (result.pass.known.part ≡ sender.pass.known.part) }
+    ensures part { (result.seat.known.part ≡ sender.entry.seat.known.part) × (result.turn.part ≡ sender.entry.turn.part) × (result.pass.known.part ≡ sender.entry.pass.known.part) }
     ensures items { (result.items.items ≡ []) × (1 ≤ deque_capacity result.items) }
 {
     let mut sender = sender;
@@ -175,7 +175,7 @@ fn lead<'a, R: DescRing, W: Wait>(
     requires own { (seat.turnstile ≡ line.now.turnstile) × (seat.held ≡ false) }
     requires by_hand { IsByHand line.now.turnstile.origin }
     ensures own { (result.turnstile ≡ line.now.turnstile) × (result.held ≡ false) }
-    ensures part { result.part ≡ seat.part }
+    ensures part { result.part ≡ seat.entry.part }
 {
     let mut seat = seat;
     for round in 1..BEFORE_STOP / BETWEEN {
@@ -190,6 +190,47 @@ fn lead<'a, R: DescRing, W: Wait>(
     seat
 }
 
+/// What the sending thread has.
+#[derive(Drop)]
+struct Sending<'l, 'a, R: DescRing> {
+    line: &'l Line<'a, R>,
+    sender: Sender<'a, R>,
+}
+
+/// What the leading thread has.
+#[derive(Drop)]
+struct Leading<'l, 'a, R: DescRing> {
+    line: &'l Line<'a, R>,
+    seat: TurnSeat<TxEngine<'a, R>>,
+}
+
+/// The sending thread.
+fn run_sender<'l, 'a, R: DescRing, W: Wait + Abort>(
+    rt: &W,
+    sending: Sending<'l, 'a, R>,
+) -> Sender<'a, R>
+    requires own { (sending.sender.seat.table ≡ sending.line.now.ring.table) × (sending.sender.turn.turnstile ≡ sending.line.now.turnstile) × (sending.sender.turn.held ≡ false) × (sending.sender.pass.pool ≡ sending.line.now.pool.now) }
+    requires items { (sending.sender.items.items ≡ []) × (1 ≤ deque_capacity sending.sender.items) }
+    ensures own { (result.seat.table ≡ sending.entry.line.now.ring.table) × (result.turn.turnstile ≡ sending.entry.line.now.turnstile) × (result.turn.held ≡ false) × (result.pass.pool ≡ sending.entry.line.now.pool.now) }
+    ensures part { (result.seat.known.part ≡ sending.entry.sender.seat.known.part) × (result.turn.part ≡ sending.entry.sender.turn.part) × (result.pass.known.part ≡ sending.entry.sender.pass.known.part) }
+    ensures items { (result.items.items ≡ []) × (1 ≤ deque_capacity result.items) }
+{
+    send(rt, sending.line, sending.sender)
+}
+
+/// The leading thread.
+fn run_leader<'l, 'a, R: DescRing, W: Wait>(
+    rt: &W,
+    leading: Leading<'l, 'a, R>,
+) -> TurnSeat<TxEngine<'a, R>>
+    requires own { (leading.seat.turnstile ≡ leading.line.now.turnstile) × (leading.seat.held ≡ false) }
+    requires by_hand { IsByHand leading.line.now.turnstile.origin }
+    ensures own { (result.turnstile ≡ leading.entry.line.now.turnstile) × (result.held ≡ false) }
+    ensures part { result.part ≡ leading.entry.seat.part }
+{
+    lead(rt, leading.line, leading.seat)
+}
+
 /// Both threads. The sender has the whole turn seat at the end.
 fn both<'a, R: DescRing, W: Threads + Wait + Abort + Sync>(
     rt: &W,
@@ -201,21 +242,23 @@ fn both<'a, R: DescRing, W: Threads + Wait + Abort + Sync>(
     requires part { 2 ≤ sender.turn.part }
     requires items { (sender.items.items ≡ []) × (1 ≤ deque_capacity sender.items) }
     ensures own { (result.seat.table ≡ line.now.ring.table) × (result.turn.turnstile ≡ line.now.turnstile) × (result.turn.held ≡ false) × (result.pass.pool ≡ line.now.pool.now) }
-    ensures part { (result.seat.known.part ≡ sender.seat.known.part) × (result.turn.part ≡ sender.turn.part) × (result.pass.known.part ≡ sender.pass.known.part) }
+    ensures part { (result.seat.known.part ≡ sender.entry.seat.known.part) × (result.turn.part ≡ sender.entry.turn.part) × (result.pass.known.part ≡ sender.entry.pass.known.part) }
     ensures items { (result.items.items ≡ []) × (1 ≤ deque_capacity result.items) }
 {
     let mut sender = sender;
     let seat = line.turnstile.split(&mut sender.turn);
+    let sending = Sending { line, sender };
+    let leading = Leading { line, seat };
     let (mut sender, seat) = join(
         rt,
         move ||
-            requires { (sender.seat.table ≡ line.now.ring.table) × (sender.turn.turnstile ≡ line.now.turnstile) × (sender.turn.held ≡ false) × (sender.pass.pool ≡ line.now.pool.now) × (sender.items.items ≡ []) × (1 ≤ deque_capacity sender.items) }
-            ensures { (result.seat.table ≡ line.entry.now.ring.table) × (result.turn.turnstile ≡ line.entry.now.turnstile) × (result.turn.held ≡ false) × (result.pass.pool ≡ line.entry.now.pool.now) × ((result.seat.known.part ≡ sender.seat.known.part) × (result.turn.part ≡ sender.turn.part) × (result.pass.known.part ≡ sender.pass.known.part)) × (result.items.items ≡ []) × (1 ≤ deque_capacity result.items) }
-        { send(rt, line, sender) },
+            requires { (sending.sender.seat.table ≡ sending.line.now.ring.table) × (sending.sender.turn.turnstile ≡ sending.line.now.turnstile) × (sending.sender.turn.held ≡ false) × (sending.sender.pass.pool ≡ sending.line.now.pool.now) × (sending.sender.items.items ≡ []) × (1 ≤ deque_capacity sending.sender.items) }
+            ensures { (result.seat.table ≡ sending.entry.line.now.ring.table) × (result.turn.turnstile ≡ sending.entry.line.now.turnstile) × (result.turn.held ≡ false) × (result.pass.pool ≡ sending.entry.line.now.pool.now) × ((result.seat.known.part ≡ sending.entry.sender.seat.known.part) × (result.turn.part ≡ sending.entry.sender.turn.part) × (result.pass.known.part ≡ sending.entry.sender.pass.known.part)) × (result.items.items ≡ []) × (1 ≤ deque_capacity result.items) }
+        { run_sender(rt, sending) },
         move ||
-            requires { (seat.turnstile ≡ line.now.turnstile) × (seat.held ≡ false) × IsByHand line.now.turnstile.origin }
-            ensures { (result.turnstile ≡ line.entry.now.turnstile) × (result.held ≡ false) × (result.part ≡ seat.part) }
-        { lead(rt, line, seat) },
+            requires { (leading.seat.turnstile ≡ leading.line.now.turnstile) × (leading.seat.held ≡ false) × IsByHand leading.line.now.turnstile.origin }
+            ensures { (result.turnstile ≡ leading.entry.line.now.turnstile) × (result.held ≡ false) × (result.part ≡ leading.entry.seat.part) }
+        { run_leader(rt, leading) },
     );
     line.turnstile.join(&mut sender.turn, seat);
     sender
