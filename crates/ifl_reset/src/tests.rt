@@ -42,6 +42,9 @@ const BY_HAND: EnginePlan = EnginePlan {
     ..QUIET
 };
 
+/// A function that holds a queue in a value of another type calls it, so that the queue's ring is known there.
+fn over<R: DescRing>() {}
+
 /// What a queue and an engine look at and do not own.
 #[derive(Drop)]
 struct Shared<R: DescRing> {

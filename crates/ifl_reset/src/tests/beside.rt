@@ -7,16 +7,16 @@ ghost use Rattle.ifl_desc.specs.Ends.{IsNewDriver, IsNewDevice};
 ghost use Rattle.ifl_desc.specs.Port.{writer_of, reader_of};
 ghost use Rattle.ifl_reset.specs.Served.{IsByHand};
 
-use super::packets::{bytes, packet, stamp};
-use super::{BY_HAND, Ends, Shared, leave, make, make_queue};
+use super::packets::{bytes, lay, offer_one, stamp};
+use super::{BY_HAND, Ends, Shared, leave, make, make_queue, over};
 use crate::{empty_out, quiesce, reset, serve, set_link, stop_flush};
 use ifl_base::Fate;
 use ifl_desc::{DescRing, TurnSeat, Turnstile};
 use ifl_device::TxEngine;
 use ifl_outside::FreeGate;
-use ifl_pcap::{CaptureBuilder, Frame, write_capture};
+use ifl_pcap::{Capture, read_capture};
 use ifl_pool::{Pool, PoolPass};
-use ifl_ring::{Enqueued, Ring, Seat};
+use ifl_ring::{Ring, Seat};
 use ifl_txq::{Item, OrderLine, Txq};
 use ifl_writeback::WritebackRing;
 use std::alloc::Global;
@@ -25,7 +25,7 @@ use std::process::Abort;
 use std::sync::Wait;
 use std::sync::atomic::{AtomicU64, Ordering};
 use std::test::*;
-use std::thread::{Threads, join, yield_now};
+use std::thread::{Threads, join_mut, yield_now};
 
 /// How many packets are sent.
 const PACKETS: u32 = 10_000;
@@ -66,56 +66,32 @@ fn publish<'a, R: DescRing, W: Wait>(rt: &W, line: &Line<'a, R>, sender: &mut Se
     ensures items { (sender.new.items.items ≡ []) × (1 ≤ deque_capacity sender.new.items) }
 {
     for _ in rt.forever() {
-        match line.ring.enqueue(
-            rt,
-            &mut sender.seat,
-            0,
-            &mut sender.items,
-            32,
-            false,
-            &FreeGate,
-        ) {
-            Enqueued::NoBuffers { seen: _ } => {
-                serve(&line.turnstile, &mut sender.turn, 8);
-                line.ring.check_drainage(rt, &mut sender.seat, 32);
-                yield_now();
-            }
-            Enqueued::Behind => return,
-            Enqueued::Abdicated => return,
-            Enqueued::Drained { left: _, total: _ } => return,
+        if offer_one(rt, &line.ring, &mut sender.seat, &mut sender.items) {
+            return;
         }
+        serve(&line.turnstile, &mut sender.turn, 8);
+        line.ring.check_drainage(rt, &mut sender.seat, 32);
+        yield_now();
     }
     unreachable!()
 }
 
 /// Sends all packets, serves behind each eighth of them, and tells how many were sent.
-fn send<'a, R: DescRing, W: Wait + Abort>(
-    rt: &W,
-    line: &Line<'a, R>,
-    sender: Sender<'a, R>,
-) -> Sender<'a, R>
-    requires own { (sender.seat.table ≡ line.now.ring.table) × (sender.turn.turnstile ≡ line.now.turnstile) × (sender.turn.held ≡ false) × (sender.pass.pool ≡ line.now.pool.now) }
-    requires items { (sender.items.items ≡ []) × (1 ≤ deque_capacity sender.items) }
-    ensures own { (result.seat.table ≡ line.now.ring.table) × (result.turn.turnstile ≡ line.now.turnstile) × (result.turn.held ≡ false) × (result.pass.pool ≡ line.now.pool.now) }
-    ensures part { (result.seat.known.part ≡ sender.entry.seat.known.part) × (result.turn.part ≡ sender.entry.turn.part) × (result.pass.known.part ≡ sender.entry.pass.known.part) }
-    ensures items { (result.items.items ≡ []) × (1 ≤ deque_capacity result.items) }
+fn send<'a, R: DescRing, W: Wait + Abort>(rt: &W, line: &Line<'a, R>, sender: &mut Sender<'a, R>)
+    requires own { (sender.old.seat.table ≡ line.now.ring.table) × (sender.old.turn.turnstile ≡ line.now.turnstile) × (sender.old.turn.held ≡ false) × (sender.old.pass.pool ≡ line.now.pool.now) }
+    requires items { (sender.old.items.items ≡ []) × (1 ≤ deque_capacity sender.old.items) }
+    ensures own { (sender.new.seat.table ≡ line.now.ring.table) × (sender.new.turn.turnstile ≡ line.now.turnstile) × (sender.new.turn.held ≡ false) × (sender.new.pass.pool ≡ line.now.pool.now) }
+    ensures part { (sender.new.seat.known.part ≡ sender.old.seat.known.part) × (sender.new.turn.part ≡ sender.old.turn.part) × (sender.new.pass.known.part ≡ sender.old.pass.known.part) }
+    ensures items { (sender.new.items.items ≡ []) × (1 ≤ deque_capacity sender.new.items) }
 {
-    let mut sender = sender;
     for index in 0..PACKETS {
-        let cluster = line
-            .pool
-            .take(rt, &mut sender.pass)
-            .expect(rt, "the pool has enough");
-        sender
-            .items
-            .push_back_reserved(Item::Packet(packet(cluster, index)));
-        publish(rt, line, &mut sender);
+        lay(rt, line.pool, &mut sender.pass, &mut sender.items, index);
+        publish(rt, line, sender);
         if index % 8 == 7 {
             serve(&line.turnstile, &mut sender.turn, 8);
         }
         line.sent.fetch_add(1, Ordering::SeqCst);
     }
-    sender
 }
 
 /// Waits until so many packets are sent.
@@ -167,27 +143,21 @@ fn stop<'a, R: DescRing, W: Wait>(rt: &W, line: &Line<'a, R>, seat: &mut TurnSea
 }
 
 /// Resets, and takes the link down and up, again and again, and stops at the end.
-fn lead<'a, R: DescRing, W: Wait>(
-    rt: &W,
-    line: &Line<'a, R>,
-    seat: TurnSeat<TxEngine<'a, R>>,
-) -> TurnSeat<TxEngine<'a, R>>
-    requires own { (seat.turnstile ≡ line.now.turnstile) × (seat.held ≡ false) }
+fn lead<'a, R: DescRing, W: Wait>(rt: &W, line: &Line<'a, R>, seat: &mut TurnSeat<TxEngine<'a, R>>)
+    requires own { (seat.old.turnstile ≡ line.now.turnstile) × (seat.old.held ≡ false) }
     requires by_hand { IsByHand line.now.turnstile.origin }
-    ensures own { (result.turnstile ≡ line.now.turnstile) × (result.held ≡ false) }
-    ensures part { result.part ≡ seat.entry.part }
+    ensures own { (seat.new.turnstile ≡ line.now.turnstile) × (seat.new.held ≡ false) }
+    ensures part { seat.new.part ≡ seat.old.part }
 {
-    let mut seat = seat;
     for round in 1..BEFORE_STOP / BETWEEN {
         await_sent(rt, line, round * BETWEEN);
-        let _ = reset(&line.turnstile, &mut seat);
-        link(rt, line, &mut seat, false);
+        let _ = reset(&line.turnstile, seat);
+        link(rt, line, seat, false);
         yield_now();
-        link(rt, line, &mut seat, true);
+        link(rt, line, seat, true);
     }
     await_sent(rt, line, BEFORE_STOP);
-    stop(rt, line, &mut seat);
-    seat
+    stop(rt, line, seat);
 }
 
 /// What the sending thread has.
@@ -205,38 +175,34 @@ struct Leading<'l, 'a, R: DescRing> {
 }
 
 /// The sending thread.
-fn run_sender<'l, 'a, R: DescRing, W: Wait + Abort>(
-    rt: &W,
-    sending: Sending<'l, 'a, R>,
-) -> Sender<'a, R>
-    requires own { (sending.sender.seat.table ≡ sending.line.now.ring.table) × (sending.sender.turn.turnstile ≡ sending.line.now.turnstile) × (sending.sender.turn.held ≡ false) × (sending.sender.pass.pool ≡ sending.line.now.pool.now) }
-    requires items { (sending.sender.items.items ≡ []) × (1 ≤ deque_capacity sending.sender.items) }
-    ensures own { (result.seat.table ≡ sending.entry.line.now.ring.table) × (result.turn.turnstile ≡ sending.entry.line.now.turnstile) × (result.turn.held ≡ false) × (result.pass.pool ≡ sending.entry.line.now.pool.now) }
-    ensures part { (result.seat.known.part ≡ sending.entry.sender.seat.known.part) × (result.turn.part ≡ sending.entry.sender.turn.part) × (result.pass.known.part ≡ sending.entry.sender.pass.known.part) }
-    ensures items { (result.items.items ≡ []) × (1 ≤ deque_capacity result.items) }
+fn run_sender<'l, 'a, R: DescRing, W: Wait + Abort>(rt: &W, sending: &mut Sending<'l, 'a, R>)
+    requires own { (sending.old.sender.seat.table ≡ sending.old.line.now.ring.table) × (sending.old.sender.turn.turnstile ≡ sending.old.line.now.turnstile) × (sending.old.sender.turn.held ≡ false) × (sending.old.sender.pass.pool ≡ sending.old.line.now.pool.now) }
+    requires items { (sending.old.sender.items.items ≡ []) × (1 ≤ deque_capacity sending.old.sender.items) }
+    ensures line { sending.new.line.now ≡ sending.old.line.now }
+    ensures own { (sending.new.sender.seat.table ≡ sending.new.line.now.ring.table) × (sending.new.sender.turn.turnstile ≡ sending.new.line.now.turnstile) × (sending.new.sender.turn.held ≡ false) × (sending.new.sender.pass.pool ≡ sending.new.line.now.pool.now) }
+    ensures part { (sending.new.sender.seat.known.part ≡ sending.old.sender.seat.known.part) × (sending.new.sender.turn.part ≡ sending.old.sender.turn.part) × (sending.new.sender.pass.known.part ≡ sending.old.sender.pass.known.part) }
+    ensures items { (sending.new.sender.items.items ≡ []) × (1 ≤ deque_capacity sending.new.sender.items) }
 {
-    send(rt, sending.line, sending.sender)
+    send(rt, sending.line, &mut sending.sender);
 }
 
 /// The leading thread.
-fn run_leader<'l, 'a, R: DescRing, W: Wait>(
-    rt: &W,
-    leading: Leading<'l, 'a, R>,
-) -> TurnSeat<TxEngine<'a, R>>
-    requires own { (leading.seat.turnstile ≡ leading.line.now.turnstile) × (leading.seat.held ≡ false) }
-    requires by_hand { IsByHand leading.line.now.turnstile.origin }
-    ensures own { (result.turnstile ≡ leading.entry.line.now.turnstile) × (result.held ≡ false) }
-    ensures part { result.part ≡ leading.entry.seat.part }
+fn run_leader<'l, 'a, R: DescRing, W: Wait>(rt: &W, leading: &mut Leading<'l, 'a, R>)
+    requires own { (leading.old.seat.turnstile ≡ leading.old.line.now.turnstile) × (leading.old.seat.held ≡ false) }
+    requires by_hand { IsByHand leading.old.line.now.turnstile.origin }
+    ensures line { leading.new.line.now ≡ leading.old.line.now }
+    ensures own { (leading.new.seat.turnstile ≡ leading.new.line.now.turnstile) × (leading.new.seat.held ≡ false) }
+    ensures part { leading.new.seat.part ≡ leading.old.seat.part }
 {
-    lead(rt, leading.line, leading.seat)
+    lead(rt, leading.line, &mut leading.seat);
 }
 
 /// Both threads. The sender has the whole turn seat at the end.
-fn both<'a, R: DescRing, W: Threads + Wait + Abort + Sync>(
+fn both<'a, W: Threads + Wait + Abort + Sync>(
     rt: &W,
-    line: &Line<'a, R>,
-    sender: Sender<'a, R>,
-) -> Sender<'a, R>
+    line: &Line<'a, WritebackRing>,
+    sender: Sender<'a, WritebackRing>,
+) -> Sender<'a, WritebackRing>
     requires own { (sender.seat.table ≡ line.now.ring.table) × (sender.turn.turnstile ≡ line.now.turnstile) × (sender.turn.held ≡ false) × (sender.pass.pool ≡ line.now.pool.now) }
     requires by_hand { IsByHand line.now.turnstile.origin }
     requires part { 2 ≤ sender.turn.part }
@@ -245,35 +211,43 @@ fn both<'a, R: DescRing, W: Threads + Wait + Abort + Sync>(
     ensures part { (result.seat.known.part ≡ sender.entry.seat.known.part) × (result.turn.part ≡ sender.entry.turn.part) × (result.pass.known.part ≡ sender.entry.pass.known.part) }
     ensures items { (result.items.items ≡ []) × (1 ≤ deque_capacity result.items) }
 {
+    over::<WritebackRing>();
     let mut sender = sender;
     let seat = line.turnstile.split(&mut sender.turn);
-    let sending = Sending { line, sender };
-    let leading = Leading { line, seat };
-    let (mut sender, seat) = join(
+    let mut sending = Sending { line, sender };
+    let mut leading = Leading { line, seat };
+    join_mut(
         rt,
-        move ||
+        &mut ||
             requires { (sending.sender.seat.table ≡ sending.line.now.ring.table) × (sending.sender.turn.turnstile ≡ sending.line.now.turnstile) × (sending.sender.turn.held ≡ false) × (sending.sender.pass.pool ≡ sending.line.now.pool.now) × (sending.sender.items.items ≡ []) × (1 ≤ deque_capacity sending.sender.items) }
-            ensures { (result.seat.table ≡ sending.entry.line.now.ring.table) × (result.turn.turnstile ≡ sending.entry.line.now.turnstile) × (result.turn.held ≡ false) × (result.pass.pool ≡ sending.entry.line.now.pool.now) × ((result.seat.known.part ≡ sending.entry.sender.seat.known.part) × (result.turn.part ≡ sending.entry.sender.turn.part) × (result.pass.known.part ≡ sending.entry.sender.pass.known.part)) × (result.items.items ≡ []) × (1 ≤ deque_capacity result.items) }
-        { run_sender(rt, sending) },
-        move ||
+        { run_sender(rt, &mut sending) },
+        &mut ||
             requires { (leading.seat.turnstile ≡ leading.line.now.turnstile) × (leading.seat.held ≡ false) × IsByHand leading.line.now.turnstile.origin }
-            ensures { (result.turnstile ≡ leading.entry.line.now.turnstile) × (result.held ≡ false) × (result.part ≡ leading.entry.seat.part) }
-        { run_leader(rt, leading) },
+        { run_leader(rt, &mut leading) },
     );
+    let Sending {
+        line: _,
+        mut sender,
+    } = sending;
+    let Leading { line: _, seat } = leading;
     line.turnstile.join(&mut sender.turn, seat);
     sender
 }
 
-/// The capture of the packets that were emitted.
-fn emitted(alloc: Global, lines: &[OrderLine]) -> Result<Vec<u8>, Fail> {
-    let mut builder = CaptureBuilder::new(alloc);
+/// The wire is the capture of the packets that were emitted, in the order in which they were sent.
+fn assert_emitted<W: Abort>(rt: &W, wire: &Capture, lines: &[OrderLine]) {
+    let mut next = 0;
     for line in lines {
         if line.fate == Fate::Wire {
             let index = line.ticket.index;
-            builder.push(&Frame::new(stamp(index), &bytes(index)))?;
+            assert!(rt; next < wire.len());
+            let frame = wire.frame(next);
+            assert_eq!(rt; frame.stamp(), stamp(index));
+            assert!(rt; frame.bytes() == bytes(index).as_slice());
+            next += 1;
         }
     }
-    Ok(write_capture(alloc, &builder.finish())?)
+    assert_eq!(rt; next, wire.len());
 }
 
 /// Each packet came back once, in the order in which they were sent.
@@ -286,11 +260,11 @@ fn assert_once<W: Abort>(rt: &W, lines: &[OrderLine]) {
 }
 
 /// Brings all to rest, and compares the order record with what is on the wire. The pass is the queue's and the sender's.
-fn conclude<'a, R: DescRing, W: Wait + Abort>(
+fn conclude<'a, W: Wait + Abort>(
     rt: &W,
     alloc: Global,
-    line: Line<'a, R>,
-    sender: Sender<'a, R>,
+    line: Line<'a, WritebackRing>,
+    sender: Sender<'a, WritebackRing>,
 ) -> Result<PoolPass, Fail>
     requires own { (sender.seat.table ≡ line.ring.table) × (sender.turn.turnstile ≡ line.turnstile) × (sender.turn.held ≡ false) × (sender.pass.pool ≡ line.pool.now) }
     requires whole { (sender.seat.known.part ≡ PART) × (sender.turn.part ≡ PART) }
@@ -328,27 +302,31 @@ fn conclude<'a, R: DescRing, W: Wait + Abort>(
     let (_, _, wire) = engine.close();
     let (lines, own) = leave(rt, queue);
     assert_once(rt, &lines);
-    assert!(rt; wire.as_slice() == emitted(alloc, &lines)?.as_slice());
+    let Ok(wire) = read_capture(alloc, wire) else {
+        panic!(rt; "the wire is a capture")
+    };
+    assert_emitted(rt, &wire, &lines);
     pool.join(&mut pass, own);
     Ok(pass)
 }
 
 /// Sends all packets beside a leading hand, and answers the whole pass.
-fn send_all<R: DescRing, W: Threads + Wait + Abort + Sync>(
+fn send_all<W: Threads + Wait + Abort + Sync>(
     rt: &W,
     alloc: Global,
-    shared: &Shared<R>,
-    ends: Ends<R>,
+    shared: &Shared<WritebackRing>,
+    ends: Ends<WritebackRing>,
     pass: PoolPass,
 ) -> Result<PoolPass, Fail>
-    requires size { (R.ring shared.now.ring).slots ≡ 32 }
-    requires ring { IsNewDriver (R.ring shared.now.ring) (R.driver_sees ends.driver) × IsNewDevice (R.ring shared.now.ring) (R.device_sees ends.device) }
+    requires size { shared.now.ring.slots ≡ 32 }
+    requires ring { IsNewDriver shared.now.ring ends.driver × IsNewDevice shared.now.ring ends.device }
     requires port { (ends.reader ≡ reader_of shared.now.port []) × (ends.writer ≡ writer_of shared.now.port []) }
     requires pool { (ends.pass.pool ≡ shared.now.pool) × (pass.pool ≡ shared.now.pool) }
     requires pass { ends.pass.known ≡ new_known ends.pass.known.number (PART / 2) }
     requires rest { pass.known.part ≡ PART - PART / 2 }
     ensures pool { IfOk result (λ p. (p.pool ≡ shared.now.pool) × (p.known.part ≡ PART)) }
 {
+    let items = VecDeque::with_capacity(alloc, 1)?;
     let (queue, engine) = make_queue(alloc, shared, ends, PACKETS, BY_HAND)?;
     let Ok((turnstile, turn)) = Turnstile::new(alloc, engine) else {
         panic!(rt; "no memory")
@@ -362,7 +340,6 @@ fn send_all<R: DescRing, W: Threads + Wait + Abort + Sync>(
         pool: &shared.pool,
         sent: AtomicU64::new(0),
     };
-    let items = VecDeque::with_capacity(alloc, 1)?;
     let sender = both(
         rt,
         &line,
@@ -377,11 +354,8 @@ fn send_all<R: DescRing, W: Threads + Wait + Abort + Sync>(
 }
 
 /// It is done over a new ring, port and pool. All clusters are back.
-fn send_beside<R: DescRing, W: Threads + Wait + Abort + Sync>(
-    rt: &W,
-    alloc: Global,
-) -> Result<(), Fail> {
-    let (shared, ends, pass) = make::<R, W>(rt, alloc, 32, CLUSTERS)?;
+fn send_beside<W: Threads + Wait + Abort + Sync>(rt: &W, alloc: Global) -> Result<(), Fail> {
+    let (shared, ends, pass) = make::<WritebackRing, W>(rt, alloc, 32, CLUSTERS)?;
     let whole = send_all(rt, alloc, &shared, ends, pass)?;
     let Shared {
         ring: _,
@@ -394,5 +368,5 @@ fn send_beside<R: DescRing, W: Threads + Wait + Abort + Sync>(
 
 #[test]
 fn each_packet_comes_back_once(rt: HostRuntime) -> Result<(), Fail> {
-    send_beside::<WritebackRing, _>(&rt, rt.alloc())
+    send_beside(&rt, rt.alloc())
 }

@@ -1,8 +1,8 @@
 //! A ring comes to rest, and an engine and a queue are emptied.
-ghost use Rattle.std.specs.Prelude.{◌≡◌, ◌≤◌, ◌+◌, [], length};
-ghost use Rattle.ifl_base.specs.declared.limits.TheConstants.{PART};
+ghost use Rattle.std.specs.Prelude.{◌≡◌, ◌≤◌, []};
+ghost use Rattle.std.specs.VecDeque.{deque_capacity};
 
-use super::packets::{load, offer};
+use super::packets::{lay, load, offer, offer_one};
 use super::{QUIET, leave, make, make_queue};
 use crate::{Served, empty_out, quiesce, serve};
 use ifl_base::{Fate, Flag};
@@ -22,30 +22,28 @@ use std::test::*;
 /// Publishes the first so many packets, one at a time.
 fn publish<'a, R: DescRing, W: Wait + Abort>(
     rt: &W,
-    alloc: Global,
     ring: &Ring<Txq<'a, R>>,
     seat: &mut Seat<Txq<'a, R>>,
     pool: &Pool,
     pass: &mut PoolPass,
+    items: &mut VecDeque<Item>,
     count: u32,
-) -> Result<(), Fail>
+)
     requires own { (seat.old.table ≡ ring.now.table) × (pass.old.pool ≡ pool.now) }
-    requires few { count ≤ 10000 }
+    requires room { (items.old.items ≡ []) × (1 ≤ deque_capacity items.old) }
     ensures own { (seat.new.table ≡ ring.now.table) × (pass.new.pool ≡ pool.now) }
     ensures part { seat.new.known.part ≡ seat.old.known.part }
+    ensures room { (items.new.items ≡ []) × (1 ≤ deque_capacity items.new) }
 {
-    let mut items = VecDeque::new(alloc);
     for index in 0..count {
-        load(rt, pool, pass, &mut items, index, 1)?;
-        assert!(rt; items.len() == 1);
-        ring.enqueue(rt, seat, 0, &mut items, 32, false, &FreeGate);
-        assert!(rt; items.is_empty());
+        lay(rt, pool, pass, items, index);
+        assert!(rt; offer_one(rt, ring, seat, items));
     }
-    Ok(())
 }
 
 /// Six packets stall the ring, since the adapter takes four, and it comes to rest.
 fn come_to_rest<R: DescRing, W: Wait + Abort>(rt: &W, alloc: Global) -> Result<(), Fail> {
+    let mut items = VecDeque::with_capacity(alloc, 1)?;
     let (shared, ends, mut pass) = make::<R, W>(rt, alloc, 8, 8)?;
     let (queue, engine) = make_queue(alloc, &shared, ends, 6, QUIET)?;
     let Ok((turnstile, mut turn)) = Turnstile::new(alloc, engine) else {
@@ -54,11 +52,10 @@ fn come_to_rest<R: DescRing, W: Wait + Abort>(rt: &W, alloc: Global) -> Result<(
     let Ok((ring, mut seat)) = Ring::new(alloc, 16, queue) else {
         panic!(rt; "no ring was made")
     };
-    publish(rt, alloc, &ring, &mut seat, &shared.pool, &mut pass, 6)?;
+    publish(rt, &ring, &mut seat, &shared.pool, &mut pass, &mut items, 6);
     assert_eq!(rt; ring.look(&mut seat).flag, Flag::Stalled);
-    let mut kick = VecDeque::with_capacity(alloc, 1)?;
     quiesce(
-        rt, &ring, &mut seat, &turnstile, &mut turn, 4, &mut kick, &FreeGate,
+        rt, &ring, &mut seat, &turnstile, &mut turn, 4, &mut items, &FreeGate,
     );
     let word = ring.look(&mut seat);
     assert_eq!(rt; word.flag, Flag::Idle);
