@@ -1,4 +1,4 @@
-use Rattle.std.proofs.Common.{◌≡◌, ◌+◌, ◌≤◌, [], ◌∷◌, List, Option, Some, None, refl, sym, ap, subst, arith}
+use Rattle.std.proofs.Common.{◌≡◌, ◌≤◌, [], ◌∷◌, List, Option, Some, None, refl, sym, ap, subst, arith}
 use Rattle.ifl_base.specs.declared.fate.Fate.{Fate}
 use Rattle.ifl_base.specs.declared.fate.Fate.TheVariants as fate
 use Rattle.ifl_txq.specs.declared.line.Line.{Line}
