@@ -1,12 +1,12 @@
 -- How the steps of quiescing go together.
-use Rattle.std.proofs.Common.{◌≡◌, ℕ, ◌+◌, ◌%◌, ◌⊎◌, inl, inr, true, false, List, [], ◌∷◌, ◌++◌, sym, refl, ap, ◌∙◌, subst, arith}
+use Rattle.std.proofs.Common.{◌≡◌, ℕ, ◌%◌, ◌⊎◌, inl, inr, true, false, List, [], ◌∷◌, ◌++◌, sym, refl, ap, ◌∙◌, subst, arith}
 use Rattle.ifl_base.specs.declared.word.Flag.TheVariants.{Idle}
 use Rattle.ifl_base.specs.declared.word.RingWord.{RingWord}
 use Rattle.ifl_base.specs.Word.{pack}
 use Rattle.ifl_ringcore.specs.declared.history.Entry.{Entry}
 use Rattle.ifl_ringcore.specs.declared.history.Meaning.{Meaning}
 use Rattle.ifl_ringcore.specs.declared.history.Step.{Step}
-use Rattle.ifl_ringcore.specs.declared.history.Step.TheVariants.{Look, Behind}
+use Rattle.ifl_ringcore.specs.declared.history.Step.TheVariants.{Look}
 use Rattle.ifl_ringcore.specs.State.{RingState, first_state}
 use Rattle.ifl_ringcore.specs.History.{state_after}
 use Rattle.ifl_ringcore.specs.Invariant.{RingInvariant}

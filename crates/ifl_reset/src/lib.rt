@@ -16,3 +16,6 @@ pub use empty::empty_out;
 pub use resting::quiesce;
 pub use served::Served;
 pub use turns::{reset, serve, set_link, stop_flush};
+
+#[cfg(test)]
+mod tests;
