@@ -23,7 +23,7 @@ use Rattle.ifl_engine.specs.declared.report.AwayLine.{AwayLine}
 use Rattle.ifl_engine.specs.declared.report.Plain.{Plain}
 use Rattle.ifl_engine.specs.declared.report.Report.{Report}
 use Rattle.ifl_engine.specs.Records.{ticket, tickets_from, all_from, all_tickets, frame_of, verdict_at}
-use Rattle.ifl_engine.specs.Lawful.{IsInFileOrder, IsBefore, verdict_for}
+use Rattle.ifl_engine.specs.Lawful.{verdict_for}
 use Rattle.ifl_engine.specs.PlainList.{judged_of, is_fit_verdict, is_fit, order_by, away_by, order_part, away_part, order_of, away_of, order_all, away_all, fit_frames}
 use Rattle.ifl_engine.specs.Report.{IsGood, AreOnWire, on_wire, emitted, is_runt, is_oversize, counts_of}
 

@@ -1,7 +1,6 @@
 -- The settings file and the captures' files: what they were read as, one after the other, and what they say.
-use Rattle.std.proofs.Common.{◌≡◌, ◌≢◌, ℕ, suc, ◌<◌, ◌≤◌, ◌+◌, Bool, true, false, cond, nat_lt, List, [], ◌∷◌, ◌++◌, length, map, take, drop, get_or, Option, Some, None, Result, Ok, Err, refl, sym, ap, subst, ◌∙◌, arith}
+use Rattle.std.proofs.Common.{◌≡◌, ◌≢◌, ℕ, suc, ◌<◌, ◌≤◌, ◌+◌, Bool, true, false, cond, nat_lt, List, [], ◌∷◌, ◌++◌, length, take, drop, get_or, Option, Some, None, Result, Ok, Err, refl, sym, ap, subst, ◌∙◌, arith}
 use Rattle.std.specs.Prelude.{sum_by}
-use Rattle.std.specs.Global.{Vec}
 use Rattle.std.proofs.Math.Seq.{drop-cons}
 use Rattle.std.proofs.lemmas.Bool.{le-ltb, lt-ltb}
 use Rattle.std.proofs.lemmas.List.{length-take-le, take_more, take-append-drop}
@@ -21,7 +20,7 @@ use Rattle.ifl_engine.specs.declared.stop.Input.TheVariants as input
 use Rattle.ifl_engine.specs.Words.{Named}
 use Rattle.ifl_engine.specs.Account.{Reply, Source, ForAccount}
 use Rattle.ifl_engine.specs.Loading.{Bytes, Chosen, Load, ◌>>=◌, each_from, limited, file_at, settings_file, capture_file, bytes_read, settings_by, settings_in, capture_in, load_in, read_of, stop_by_settings}
-use Rattle.ifl_engine.specs.Loaded.{chosen, load_seen, each_bytes}
+use Rattle.ifl_engine.specs.Loaded.{chosen}
 use Rattle.ifl_engine.specs.Steps.{IsRead, IsReadFailure}
 use Rattle.ifl_engine.proofs.Each.{each_from-more, each_from-stopped, each_from-same}
 use Rattle.ifl_engine.proofs.ReadLaws.{IsRead-stopped, IsRead-then, joined, for_both}

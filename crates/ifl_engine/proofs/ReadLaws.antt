@@ -13,7 +13,7 @@ use Rattle.ifl_pcap.specs.Reading.{capture_of}
 use Rattle.ifl_engine.specs.declared.stop.Stop.{Stop}
 use Rattle.ifl_engine.specs.declared.stop.Stop.TheVariants as stop
 use Rattle.ifl_engine.specs.declared.stop.Input.{Input}
-use Rattle.ifl_engine.specs.Account.{Reply, failed, gave, Held, Source, IsAccount, ForAccount}
+use Rattle.ifl_engine.specs.Account.{Reply, failed, gave, Source, IsAccount, ForAccount}
 use Rattle.ifl_engine.specs.Loading.{◌>>=◌, file_at, capture_in}
 use Rattle.ifl_engine.specs.Loaded.{bytes_of}
 use Rattle.ifl_engine.specs.Steps.{IsRead}

@@ -1,6 +1,5 @@
-ghost use Rattle.std.specs.Prelude.{◌≡◌, ◌<◌, ◌≤◌, ◌+◌, ◌^◌, ◌++◌, length, map, count_by, sum_by, filter, OnOk, IfOk};
-ghost use Rattle.std.specs.List.{AllByRecursion};
-ghost use Rattle.ifl_pcap.specs.File.{Fits, IsShort, written};
+ghost use Rattle.std.specs.Prelude.{◌≡◌, ◌<◌, ◌≤◌, ◌+◌, ◌^◌, ◌++◌, length, map, count_by, filter, OnOk, IfOk};
+ghost use Rattle.ifl_pcap.specs.File.{written};
 ghost use Rattle.ifl_engine.specs.PlainList.{judged_of, is_fit, order_by, away_by, order_of, away_of, order_all, away_all, fit_frames, joined};
 ghost use Rattle.ifl_engine.specs.Report.{IsGood, is_runt, is_oversize};
 ghost use Rattle.ifl_engine.specs.Loaded.{frames_of, each_frames};

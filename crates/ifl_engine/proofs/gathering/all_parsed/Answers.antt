@@ -8,7 +8,7 @@ use Rattle.std.proofs.lemmas.Result.{err_from_is_err_and}
 use Rattle.ifl_pcap.specs.declared.frame.Frame.{Frame}
 use Rattle.ifl_engine.specs.Loading.{each_from, capture_in}
 use Rattle.ifl_engine.specs.Loaded.{bytes_of, frames_of, each_frames}
-use Rattle.ifl_engine.specs.Steps.{AreWithin, IsSmall, IsRead}
+use Rattle.ifl_engine.specs.Steps.{AreWithin, IsSmall}
 use Rattle.ifl_engine.proofs.Each.{each_from-more, each_from-stopped}
 use Rattle.ifl_engine.proofs.gathering.all_parsed.Goals as goal
 

@@ -1,4 +1,4 @@
-use Rattle.std.proofs.Common.{◌≡◌, ℕ, ◌∙◌, ap, length, arith}
+use Rattle.std.proofs.Common.{ℕ, ◌∙◌, ap, length, arith}
 use Rattle.std.specs.Prelude.{sum_by}
 use Rattle.std.specs.Global.{Vec}
 use Rattle.ifl_pcap.specs.declared.capture.Capture.{Capture}

@@ -1,4 +1,4 @@
-use Rattle.std.proofs.Common.{◌≡◌, ◌∙◌, List, ap, length, map, refl, arith}
+use Rattle.std.proofs.Common.{◌∙◌, List, ap, length, map, refl, arith}
 use Rattle.std.specs.Prelude.{sum_by, count_by}
 use Rattle.ifl_pcap.specs.declared.capture.Capture.{Capture}
 use Rattle.ifl_engine.specs.declared.report.AwayLine.{AwayLine}

@@ -1,14 +1,13 @@
-use Rattle.std.proofs.Common.{◌≡◌, ℕ, ◌+◌, ◌<◌, ◌≤◌, ◌++◌, ◌∷◌, [], List, length, map, take, get_or, Ok, Err, refl, sym, ap, subst, ◌∙◌, arith}
+use Rattle.std.proofs.Common.{◌≡◌, ℕ, ◌+◌, ◌<◌, ◌≤◌, ◌++◌, ◌∷◌, [], List, length, map, take, get_or, Ok, refl, sym, ap, subst, ◌∙◌, arith}
 use Rattle.std.specs.String.{string_bytes}
 use Rattle.std.proofs.Math.ListN.{get_or-map}
 use Rattle.std.proofs.lemmas.List.{length-map, map-append}
 use Rattle.std.proofs.lemmas.List.Elements.{All-nil, All-push}
 use Rattle.std.proofs.lemmas.Result.{err_from_is_err_and}
 use Rattle.std.specs.Global.{Vec}
-use Rattle.ifl_engine.specs.Account.{Source, ForAccount}
+use Rattle.ifl_engine.specs.Account.{ForAccount}
 use Rattle.ifl_engine.specs.Loading.{each_from, capture_file}
 use Rattle.ifl_engine.specs.Loaded.{bytes_of, each_bytes}
-use Rattle.ifl_engine.specs.Steps.{IsRead}
 use Rattle.ifl_engine.proofs.Loading.{captures_read-more, captures_read-stopped}
 use Rattle.ifl_engine.proofs.ReadLaws.{for_any}
 use Rattle.ifl_engine.proofs.Risen.{risen, risen_late}

@@ -3,7 +3,6 @@ use Rattle.std.specs.Prelude.{option_map}
 use Rattle.std.proofs.lemmas.Result.{err_from_is_err_and}
 use Rattle.ifl_engine.specs.declared.stop.Input.TheVariants as input
 use Rattle.ifl_engine.specs.Read.{names_of}
-use Rattle.ifl_engine.specs.Account.{Source}
 use Rattle.ifl_engine.specs.Loading.{each_from, settings_file, capture_file}
 use Rattle.ifl_engine.specs.Loaded.{bytes_of, each_bytes, bytes_seen}
 use Rattle.ifl_engine.specs.Steps.{IsRead}

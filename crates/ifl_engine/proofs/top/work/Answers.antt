@@ -1,4 +1,4 @@
-use Rattle.std.proofs.Common.{◌∷◌, [], None, Ok, refl, arith}
+use Rattle.std.proofs.Common.{None, Ok, refl, arith}
 use Rattle.ifl_engine.specs.declared.stop.Stop.TheVariants as stop
 use Rattle.ifl_engine.specs.Read.{names_of}
 use Rattle.ifl_engine.specs.Wanted.{sending}
