@@ -1,5 +1,5 @@
 -- What a command shows of the words, and what is answered to them.
-use Rattle.std.specs.Prelude.{◌≡◌, ℕ, false, List, [], ◌∷◌, length, map, None, Some, option_map, string_bytes, Result, Ok, Err, IfSome}
+use Rattle.std.specs.Prelude.{◌≡◌, ◌<◌, ℕ, false, List, [], ◌∷◌, length, map, None, Some, option_map, string_bytes, Result, Ok, Err, IfSome}
 use Rattle.std.specs.Str.Parse.{digits_value}
 use Rattle.ifl_conf.specs.declared.word_fault.WordFault.{WordFault}
 use Rattle.ifl_conf.specs.declared.word_fault.WordFault.TheVariants.{NoCommand, UnknownCommand, Refused, Names, Memory}
@@ -58,9 +58,16 @@ Answers (Err Refused) r = r ≡ refused
 Answers (Err Names) r = r ≡ names
 Answers (Err Memory) r = Unit {0}
 
+-- a command that reads captures names one at least
+abbrev pub HasFiles : Command → Type 0
+HasFiles (command.Send s) = 0 < length s.files.items
+HasFiles (command.Gen g) = Unit {0}
+HasFiles (command.Trace file) = Unit {0}
+HasFiles (command.Check k) = 0 < length k.files.items
+
 -- the program does what the command asks for
 abbrev pub IsServed : Command → Type 0
-IsServed (command.Send s) = (length s.files.items ≡ 1) × (s.input ≡ None) × (s.host ≡ None) × (s.ring ≡ false)
+IsServed (command.Send s) = (s.input ≡ None) × (s.host ≡ None) × (s.ring ≡ false)
 IsServed (command.Gen g) = ⊥
 IsServed (command.Trace file) = Unit {0}
 IsServed (command.Check c) = ⊥

@@ -20,7 +20,7 @@ pub data Reading : Type 0 where
 abbrev pub reading_of : CommandName → List Given → Option (List (List ℕ)) → Reading
 reading_of c gs None = refused
 reading_of c gs (Some fs) =
-    if not (is_of_grammar c gs fs && is_form_served c gs fs) then refused else if writes_files c && names_clash gs fs then names else asks c gs fs
+    if not (is_of_grammar c gs fs && is_form_served c gs) then refused else if writes_files c && names_clash gs fs then names else asks c gs fs
 
 -- what the words behind a command's name are
 abbrev pub command_reading : List (List ℕ) → Option CommandName → Reading

@@ -1,5 +1,5 @@
 -- What the words and the settings file may say and the program does not do yet. It is refused until then.
-use Rattle.std.specs.Prelude.{ℕ, Bool, true, false, not, ◌&&◌, ◌==◌, List, length, codes}
+use Rattle.std.specs.Prelude.{Bool, true, false, not, ◌&&◌, ◌==◌, List, codes}
 use Rattle.std.specs.Str.{bytes_eq}
 use Rattle.ifl_conf.specs.declared.keys.KeyName.{KeyName}
 use Rattle.ifl_conf.specs.declared.keys.KeyName.TheVariants.{RingAbdicate, AdapterKind, AdapterStart, AdapterHangAfter, AdapterLinkDownAfter, FramesPolicy, StopMode}
@@ -10,11 +10,11 @@ use Rattle.ifl_conf.specs.Keys.{Setting, number, flag, word}
 use Rattle.ifl_conf.specs.Front.{Given}
 use Rattle.ifl_conf.specs.Grammar.{is_given}
 
--- the program does what a command asks for with these options and FILE words
-unfoldable pub is_form_served : CommandName → List Given → List (List ℕ) → Bool
-is_form_served Send gs fs = length fs == 1 && (not (is_given Input gs) && not (is_given Ring gs))
-is_form_served Trace gs fs = true
-is_form_served _ gs fs = false
+-- the program does what a command asks for with these options
+unfoldable pub is_form_served : CommandName → List Given → Bool
+is_form_served Send gs = not (is_given Input gs) && not (is_given Ring gs)
+is_form_served Trace gs = true
+is_form_served _ gs = false
 
 -- the program has the effect of a setting of the key
 abbrev pub is_served : KeyName → Setting → Bool

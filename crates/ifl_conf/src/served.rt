@@ -1,4 +1,4 @@
-ghost use Rattle.std.specs.Prelude.{◌≡◌, map, string_bytes};
+ghost use Rattle.std.specs.Prelude.{◌≡◌, map};
 ghost use Rattle.ifl_conf.specs.Keys.{number, flag, word};
 ghost use Rattle.ifl_conf.specs.Served.{is_form_served, is_served};
 ghost use Rattle.ifl_conf.specs.GivenOption.{given};
@@ -10,20 +10,14 @@ use crate::words::{CommandName, OptionName};
 
 // What the words and the settings file may say and the program does not do yet. It is refused until then.
 
-/// Whether the program does what these words ask for.
+/// Whether the program does what a command asks for with these options.
 #[tactic(auto, unfolding(crate::specs::Served::is_form_served))]
-pub(crate) fn is_form_served(
-    command: CommandName,
-    options: &[GivenOption],
-    files: &[String],
-) -> bool
-    ensures { result ≡ is_form_served command (map given options.now) (map string_bytes files.now) }
+pub(crate) fn is_form_served(command: CommandName, options: &[GivenOption]) -> bool
+    ensures { result ≡ is_form_served command (map given options.now) }
 {
     match command {
         CommandName::Send => {
-            files.len() == 1
-                && !is_given(options, OptionName::Input)
-                && !is_given(options, OptionName::Ring)
+            !is_given(options, OptionName::Input) && !is_given(options, OptionName::Ring)
         }
         CommandName::Trace => true,
         CommandName::Gen | CommandName::Check => false,

@@ -25,13 +25,13 @@ use Rattle.ifl_engine.specs.Read.{names_of, GivesWords, IsApart}
 
 -- ---- what was read is what is asked for
 
-abbrev files_named : Option (List ℕ) → List ℕ → List ℕ → List ℕ → Named
-files_named settings wire order file = record { settings = settings; wire = wire; order = order; file = file }
+abbrev files_named : Option (List ℕ) → List ℕ → List ℕ → List (List ℕ) → Named
+files_named settings wire order files = record { settings = settings; wire = wire; order = order; files = files }
 
 named_is : (s : SendWords) (gs : List Given) (fs : List (List ℕ)) → ShowsSend s gs fs → named gs fs ≡ names_of s
 unfolding option_named
 named_is s gs fs h =
-    let same : named gs fs ≡ files_named (option_map string_bytes s.settings) (string_bytes s.wire) (string_bytes s.order) (first_name (map string_bytes s.files.items)) = rw (h.settings, h.wire, h.order, h.files) refl in
+    let same : named gs fs ≡ files_named (option_map string_bytes s.settings) (string_bytes s.wire) (string_bytes s.order) (map string_bytes s.files.items) = rw (h.settings, h.wire, h.order, h.files) refl in
     same
 
 abbrev ask_send : Named → Result Asked WordsWhy
@@ -76,7 +76,7 @@ by_tests false false c gs fs is = is
 
 by_files : (c : _) (gs : List Given) (files : Option (List (List ℕ))) → clashing (reading_of c gs files) ≡ false
 by_files c gs None = refl
-by_files c gs (Some fs) = by_tests (not (is_of_grammar c gs fs && is_form_served c gs fs)) (writes_files c && names_clash gs fs) c gs fs refl
+by_files c gs (Some fs) = by_tests (not (is_of_grammar c gs fs && is_form_served c gs)) (writes_files c && names_clash gs fs) c gs fs refl
 
 by_command : (ws : List (List ℕ)) (c : Option _) → clashing (command_reading ws c) ≡ false
 by_command ws None = refl

@@ -9,6 +9,7 @@ use Rattle.ifl_engine.specs.declared.stop.Stop.TheVariants as stop
 use Rattle.ifl_engine.specs.Words.{Named}
 use Rattle.ifl_engine.specs.Report.{IsGood}
 use Rattle.ifl_engine.specs.Texts.{counter_text_of}
+use Rattle.ifl_engine.specs.Loading.{Chosen, max_frame_of}
 use Rattle.ifl_engine.specs.Wanted.{Work, sending}
 use Rattle.ifl_engine.specs.Status.{status_of}
 use Rattle.ifl_engine.specs.Seen.{Seen}
@@ -25,23 +26,18 @@ begins_print why Ending text a b of is h = told_map a b _ (Begins why Ending) (�
 
 -- a stop of the host is a write or a print that failed, or want of memory
 host_stop : (why : Stop) (a b : ℕ) → IsHostStop why a b → ((status_of why ≡ 5) × IsOfOutput why × Rose a b) ⊎ (why ≡ stop.Memory)
-host_stop (stop.Words f) a b h = absurd h
-host_stop (stop.ReadFailed which) a b h = absurd h
-host_stop (stop.Absent which) a b h = absurd h
-host_stop (stop.TooLong which) a b h = absurd h
-host_stop (stop.Settings e) a b h = absurd h
-host_stop (stop.Capture at why) a b h = absurd h
 host_stop stop.WireFailed a b h = inl (refl, tt, h)
 host_stop stop.OrderFailed a b h = inl (refl, tt, h)
 host_stop stop.PrintFailed a b h = inl (refl, tt, h)
 host_stop stop.Memory a b h = inr refl
+host_stop why a b h = absurd h
 
 -- the answer after a stop of writing
-pub write_stopped : (names : Named) (max_frame : ℕ) (captures : List (List Frame)) (r : Report) (why : Stop) (before mid after : Seen) (status : ℕ) → IsGood max_frame captures r → IsHostStop why before.faults mid.faults → before.faults ≤ mid.faults
+pub write_stopped : (names : Named) (settings : Chosen) (captures : List (List Frame)) (r : Report) (why : Stop) (before mid after : Seen) (status : ℕ) → IsGood (max_frame_of settings) captures r → IsHostStop why before.faults mid.faults → before.faults ≤ mid.faults
     → BothTold before.files mid.files (IsLeft names r why) → BothTold before.files mid.files (IsStanding names r) → BothTold before.printed mid.printed (Begins why (λ text. text ≡ counter_text_of r.plain))
-    → IsTold names why mid after status → IsAnswer names (Ok (sending names max_frame captures)) before after (record { status = status; report = Some r })
-write_stopped names max_frame captures r why before mid after status good fault later left standing begun told =
-    let work : Result Work Stop = Ok (sending names max_frame captures) in
+    → IsTold names why mid after status → IsAnswer names (Ok (sending names settings captures)) before after (record { status = status; report = Some r })
+write_stopped names settings captures r why before mid after status good fault later left standing begun told =
+    let work : Result Work Stop = Ok (sending names settings captures) in
     let cause = host_stop why before.faults mid.faults fault in
     let s : (status ≡ 6) ⊎ ((status ≡ 5) × HasOutput work) = elim (told.status) [ inl e ↦ elim cause [ inl five ↦ inr (e ∙ five.0, tt) | inr memory ↦ inl (e ∙ ap status_of memory) ] | inr e ↦ inl e ] in
     let rose : status_of why ≡ 5 → Rose before.faults mid.faults = λ five. elim cause [ inl c ↦ c.2 | inr memory ↦ absurd (omega (arith, five, ap status_of memory)) ] in

@@ -1,5 +1,5 @@
 -- A turn of a loop that puts lines, and the length of a written capture.
-use Rattle.std.proofs.Common.{◌≡◌, Bool, true, false, cond, ℕ, zero, suc, ◌+◌, ◌*◌, ◌<◌, ◌≤◌, List, [], ◌∷◌, ◌++◌, length, get_or, take, refl, sym, ap, ◌∙◌, arith, inl, inr}
+use Rattle.std.proofs.Common.{◌≡◌, Bool, true, false, cond, ℕ, zero, suc, ◌+◌, ◌*◌, ◌<◌, ◌≤◌, List, [], ◌∷◌, ◌++◌, length, get_or, take, refl, sym, ap, ◌∙◌, append_assoc, arith, inl, inr}
 use Rattle.std.specs.Prelude.{sum_by, filter}
 use Rattle.std.specs.List.{flat_map, enumerate_from, AllByRecursion}
 use Rattle.std.proofs.lemmas.Bool.{lt-ltb, le-ltb}
@@ -27,21 +27,22 @@ take_all (x ∷ xs) zero le = absurd (omega arith)
 take_all (x ∷ xs) (suc i) le = ap (λ (ys : _). x ∷ ys) (take_all xs i (omega arith))
 
 -- one more element's part
-pub next_part : {X A : Type 0} (g : X → List A) (xs : List X) (i : ℕ) (x : X) (out new : List A) → i < length xs → get_or xs i x ≡ x → out ≡ flat_map g (take i xs) → new ≡ out ++ g x → new ≡ flat_map g (take (i + 1) xs)
-next_part g xs i x out new lt is inv added =
-    added ∙ ap (λ (o : _). o ++ g x) inv ∙ sym (ap (flat_map g) (take_more xs i x lt ∙ ap (λ (y : _). take i xs ++ y ∷ []) is) ∙ flat_map-append g (take i xs) (x ∷ []) ∙ ap (λ (r : _). flat_map g (take i xs) ++ r) (one g x))
+pub next_part : {X A : Type 0} (g : X → List A) (xs : List X) (i : ℕ) (x : X) (front out new : List A) → i < length xs → get_or xs i x ≡ x → out ≡ front ++ flat_map g (take i xs) → new ≡ out ++ g x → new ≡ front ++ flat_map g (take (i + 1) xs)
+next_part g xs i x front out new lt is inv added =
+    let more : flat_map g (take (i + 1) xs) ≡ flat_map g (take i xs) ++ g x = ap (flat_map g) (take_more xs i x lt ∙ ap (λ (y : _). take i xs ++ y ∷ []) is) ∙ flat_map-append g (take i xs) (x ∷ []) ∙ ap (λ (r : _). flat_map g (take i xs) ++ r) (one g x) in
+    added ∙ ap (λ (o : _). o ++ g x) inv ∙ append_assoc front (flat_map g (take i xs)) (g x) ∙ ap (λ (z : _). front ++ z) (sym more)
 
-abbrev both : ℕ → Frame → ℕ × Frame
-both n f = (n, f)
+abbrev both : {X : Type 0} → ℕ → X → ℕ × X
+both n x = (n, x)
 
-pair : (a b : ℕ) (x y : Frame) → a ≡ b → x ≡ y → both a x ≡ both b y
+pair : {X : Type 0} → (a b : ℕ) (x y : X) → a ≡ b → x ≡ y → both a x ≡ both b y
 pair a b x y p q = rw (p, q) refl
 
-pub numbered : {A : Type 0} (g : ℕ × Frame → List A) (fs : List Frame) (i : ℕ) (f : Frame) (out new : List A) → i < length fs → f ≡ get_or fs i f → out ≡ flat_map g (take i (enumerate_from 0 fs)) → new ≡ out ++ g (i, f) → new ≡ flat_map g (take (i + 1) (enumerate_from 0 fs))
-numbered g fs i f out new lt is inv added =
+pub numbered : {X A : Type 0} (g : ℕ × X → List A) (fs : List X) (i : ℕ) (f : X) (front out new : List A) → i < length fs → f ≡ get_or fs i f → out ≡ front ++ flat_map g (take i (enumerate_from 0 fs)) → new ≡ out ++ g (i, f) → new ≡ front ++ flat_map g (take (i + 1) (enumerate_from 0 fs))
+numbered g fs i f front out new lt is inv added =
     let long : i < length (enumerate_from 0 fs) = omega (arith, length-enumerate_from 0 fs) in
     let at : get_or (enumerate_from 0 fs) i (i, f) ≡ (i, f) = get_or-enumerate_from 0 fs i (i, f) lt ∙ pair (0 + i) i (get_or fs i f) f (omega arith) (sym is) in
-    next_part g (enumerate_from 0 fs) i (i, f) out new long at inv added
+    next_part g (enumerate_from 0 fs) i (i, f) front out new long at inv added
 
 length-records : (fs : List Frame) → length (flat_map record_of fs) ≡ 16 * length fs + sum_by (λ (f : Frame). length f.bytes) fs
 length-records [] = refl

@@ -1,5 +1,5 @@
 -- What was read is what an account of the files says.
-use Rattle.std.proofs.Common.{◌≡◌, ◌≢◌, ◌⊎◌, ℕ, zero, suc, ◌<◌, ◌≤◌, List, [], ◌∷◌, length, Option, Some, None, Result, Ok, Err, refl, sym, ap, subst, ◌∙◌, arith, inl, inr}
+use Rattle.std.proofs.Common.{◌≡◌, ◌≢◌, ◌⊎◌, ℕ, Bool, true, false, cond, zero, suc, ◌<◌, ◌≤◌, List, [], ◌∷◌, length, Option, Some, None, Result, Ok, Err, refl, sym, ap, subst, ◌∙◌, arith, inl, inr}
 use Rattle.std.specs.Prelude.{IfSome, IsSomeAnd}
 use Rattle.std.specs.Global.{Vec}
 use Rattle.std.proofs.lemmas.Bool.{le-ltb, lt-ltb}
@@ -7,16 +7,15 @@ use Rattle.ifl_outside.specs.Files.{Files, held}
 use Rattle.ifl_outside.specs.Fetched.{IsFetch}
 use Rattle.ifl_outside.specs.declared.host.Fetch.TheVariants as fetch
 use Rattle.ifl_pcap.specs.declared.frame.Frame.{Frame}
-use Rattle.ifl_pcap.specs.declared.capture.Capture.{Capture}
 use Rattle.ifl_pcap.specs.declared.fault.CaptureWhy.{CaptureWhy}
 use Rattle.ifl_pcap.specs.declared.fault.CaptureFault.TheVariants.{Bad}
 use Rattle.ifl_pcap.specs.Reading.{capture_of}
 use Rattle.ifl_engine.specs.declared.stop.Stop.{Stop}
 use Rattle.ifl_engine.specs.declared.stop.Stop.TheVariants as stop
 use Rattle.ifl_engine.specs.declared.stop.Input.{Input}
-use Rattle.ifl_engine.specs.declared.stop.Input.TheVariants as input
-use Rattle.ifl_engine.specs.Account.{Reply, failed, gave, Held, Source, IsAccount, ForAccount}
-use Rattle.ifl_engine.specs.Loading.{◌>>=◌, file_at, captures_in}
+use Rattle.ifl_engine.specs.Account.{Reply, failed, gave, Source, IsAccount, ForAccount}
+use Rattle.ifl_engine.specs.Loading.{◌>>=◌, file_at, capture_in}
+use Rattle.ifl_engine.specs.Loaded.{bytes_of}
 use Rattle.ifl_engine.specs.Steps.{IsRead}
 
 -- ---- what a file within its limit, an absent one and a longer one are read as
@@ -35,9 +34,6 @@ longer (suc n) = let rest = longer n in (0 ∷ rest.0, omega (arith, rest.1))
 long_at : (n : ℕ) (file : Option (List ℕ)) → IsSomeAnd file (λ bytes. n < length bytes) → (bytes : List ℕ) × (file ≡ Some bytes) × (n < length bytes)
 long_at n None h = absurd h
 long_at n (Some bytes) h = (bytes, refl, h)
-
-abbrev pub bytes_of : Vec ℕ → List ℕ
-bytes_of v = v.items
 
 -- an account of what the host tells, or of a file like this where it tells none
 abbrev finds : Option Files → Option (List ℕ) → Source
@@ -86,51 +82,46 @@ for_each files F G P Q fault step h = (h.0, later_fault files F G h.0 fault h.1,
 pub from_account : (files : Option Files) (Fault : Type 0) (P : Source → Type 0) (X : Type 0) → ((source : Source) → P source → X) → ForAccount files Fault P → X
 from_account files Fault P X step h = step h.0 h.2
 
--- what holds of one read, and what holds of the other, hold of both
-abbrev joined : Held → Held → Source
-joined first second input.Settings = first
-joined first second input.File = second
+-- one of two accounts at each read: the first where the test says so
+abbrev pub joined : (Input → Bool) → Source → Source → Source
+joined first p q which name = cond (first which) (p which name) (q which name)
 
-joined_blamed : (files : Option Files) (F G K : Type 0) (p q : Source) → (F → K) → (G → K) → IsAccount files F p → IsAccount files G q → (which : Input) (name : List ℕ) → joined (p input.Settings) (q input.File) which name ≡ failed → K
-joined_blamed files F G K p q f g a b input.Settings name is = f (a.blamed input.Settings name is)
-joined_blamed files F G K p q f g a b input.File name is = g (b.blamed input.File name is)
+either : (b : Bool) (x y : Reply) (P : Reply → Type 0) → P x → P y → P (cond b x y)
+either true x y P a b = a
+either false x y P a b = b
 
-joined_told : (fs : Files) (F G : Type 0) (p q : Source) → IsAccount (Some fs) F p → IsAccount (Some fs) G q → (which : Input) (name : List ℕ) → (joined (p input.Settings) (q input.File) which name ≡ failed) ⊎ (joined (p input.Settings) (q input.File) which name ≡ gave (held fs name))
-joined_told fs F G p q a b input.Settings name = a.told input.Settings name
-joined_told fs F G p q a b input.File name = b.told input.File name
+joined_account : (files : Option Files) (F G K : Type 0) (first : Input → Bool) (p q : Source) → (F → K) → (G → K) → IsAccount files F p → IsAccount files G q → IsAccount files K (joined first p q)
+joined_account None F G K first p q f g a b = record {
+  blamed = λ which name. either (first which) (p which name) (q which name) (λ r. r ≡ failed → K) (λ is. f (a.blamed which name is)) (λ is. g (b.blamed which name is));
+  told = tt;
+}
+joined_account (Some fs) F G K first p q f g a b = record {
+  blamed = λ which name. either (first which) (p which name) (q which name) (λ r. r ≡ failed → K) (λ is. f (a.blamed which name is)) (λ is. g (b.blamed which name is));
+  told = λ which name. either (first which) (p which name) (q which name) (λ r. (r ≡ failed) ⊎ (r ≡ gave (held fs name))) (a.told which name) (b.told which name);
+}
 
-joined_account : (files : Option Files) (F G K : Type 0) (p q : Source) → (F → K) → (G → K) → IsAccount files F p → IsAccount files G q → IsAccount files K (joined (p input.Settings) (q input.File))
-joined_account None F G K p q f g a b = record { blamed = joined_blamed None F G K p q f g a b; told = tt }
-joined_account (Some fs) F G K p q f g a b = record { blamed = joined_blamed (Some fs) F G K p q f g a b; told = joined_told fs F G p q a b }
-
-pub for_both : (files : Option Files) (F G K : Type 0) (P Q : Held → Type 0) (R : Source → Type 0) → (F → K) → (G → K) → ((source : Source) → P (source input.Settings) → Q (source input.File) → R source)
-    → ForAccount files F (λ source. P (source input.Settings)) → ForAccount files G (λ source. Q (source input.File)) → ForAccount files K R
-for_both files F G K P Q R f g step p q = (joined (p.0 input.Settings) (q.0 input.File), joined_account files F G K p.0 q.0 f g p.1 q.1, step (joined (p.0 input.Settings) (q.0 input.File)) p.2 q.2)
+-- what holds of the first reads by one account, and what holds of the others by another, hold of both by one
+pub for_both : (files : Option Files) (F G K : Type 0) (first : Input → Bool) (P Q R : Source → Type 0) → (F → K) → (G → K) → ((p q : Source) → P p → Q q → R (joined first p q))
+    → ForAccount files F P → ForAccount files G Q → ForAccount files K R
+for_both files F G K first P Q R f g step p q = (joined first p.0 q.0, joined_account files F G K first p.0 q.0 f g p.1 q.1, step p.0 q.0 p.2 q.2)
 
 -- ---- what stands behind a file that was read
 
-pub captures_in-ok : (bytes : List ℕ) (fs : List Frame) → capture_of bytes ≡ Ok fs → captures_in bytes ≡ Ok (fs ∷ [])
-captures_in-ok bytes fs is = rw is refl
+pub capture_in-ok : (n : ℕ) (bytes : List ℕ) (fs : List Frame) → capture_of bytes ≡ Ok fs → capture_in n bytes ≡ Ok fs
+capture_in-ok n bytes fs is = rw is refl
 
-pub captures_in-bad : (bytes : List ℕ) (at : ℕ) (why : CaptureWhy) → capture_of bytes ≡ Err (Bad at why) → captures_in bytes ≡ Err (stop.Capture at why)
-captures_in-bad bytes at why is = rw is refl
+pub capture_in-bad : (n : ℕ) (bytes : List ℕ) (at : ℕ) (why : CaptureWhy) → capture_of bytes ≡ Err (Bad at why) → capture_in n bytes ≡ Err (stop.Capture n at why)
+capture_in-bad n bytes at why is = rw is refl
 
 -- what was not read stops what stands behind it
 pub IsRead-stopped : {X Y Z W : Type 0} (view : X → Y) (seen : Z → W) (read : Result Y Stop) (then : Y → Result W Stop) (why : Stop) → IsRead view (Err why) read → IsRead seen (Err why) (read >>= then)
-IsRead-stopped view seen read then (stop.Words f) is = absurd is
-IsRead-stopped {X} {Y} view seen read then (stop.ReadFailed which) is = ap (λ (r : Result Y Stop). r >>= then) is
 IsRead-stopped view seen read then stop.Memory is = tt
-IsRead-stopped {X} {Y} view seen read then (stop.Absent which) is = ap (λ (r : Result Y Stop). r >>= then) is
-IsRead-stopped {X} {Y} view seen read then (stop.TooLong which) is = ap (λ (r : Result Y Stop). r >>= then) is
-IsRead-stopped {X} {Y} view seen read then (stop.Settings e) is = ap (λ (r : Result Y Stop). r >>= then) is
-IsRead-stopped {X} {Y} view seen read then (stop.Capture at why) is = ap (λ (r : Result Y Stop). r >>= then) is
+IsRead-stopped view seen read then (stop.Words f) is = absurd is
 IsRead-stopped view seen read then stop.WireFailed is = absurd is
 IsRead-stopped view seen read then stop.OrderFailed is = absurd is
 IsRead-stopped view seen read then stop.PrintFailed is = absurd is
+IsRead-stopped {X} {Y} view seen read then why is = ap (λ (r : Result Y Stop). r >>= then) is
 
 -- what was read, and what stands behind it
 pub IsRead-then : {Y Z W : Type 0} (seen : Z → W) (r : Result Z Stop) (read : Result Y Stop) (then : Y → Result W Stop) (y : Y) → read ≡ Ok y → IsRead seen r (then y) → IsRead seen r (read >>= then)
 IsRead-then {Y} seen r read then y is h = subst (IsRead seen r) (sym (ap (λ (f : Result Y Stop). f >>= then) is)) h
-
-abbrev pub frames_in : Capture → List (List Frame)
-frames_in c = c.frames ∷ []

@@ -1,5 +1,5 @@
 -- Words that are refused, and the status that they give.
-use Rattle.std.proofs.Common.{◌≡◌, ◌≢◌, ℕ, ◌<◌, [], Option, None, Result, Ok, Err, refl, sym, ap, subst, ◌∙◌, arith, inl, inr}
+use Rattle.std.proofs.Common.{◌≡◌, ◌≢◌, ℕ, [], Option, None, Result, Ok, Err, refl, sym, ap, subst, arith, inl, inr}
 use Rattle.ifl_engine.specs.declared.report.Finished.{Finished}
 use Rattle.ifl_engine.specs.declared.report.Report.{Report}
 use Rattle.ifl_engine.specs.declared.stop.WordsWhy.{WordsWhy}
@@ -18,7 +18,7 @@ use Rattle.ifl_engine.proofs.CutShort.{begins_empty}
 use Rattle.ifl_engine.proofs.Stopping.{stopped, no_memory}
 
 abbrev none : Named
-none = record { settings = None; wire = []; order = []; file = [] }
+none = record { settings = None; wire = []; order = []; files = [] }
 
 refused_as : (r : Result Asked WordsWhy) (source : Source) (why : WordsWhy) (before after : Seen) (status : ℕ) → r ≡ Err why → IsTold none (stop.Words why) before after status
     → IsAnswer (names_or_none r) (wanted_by r source) before after (record { status = status; report = None })
@@ -34,14 +34,7 @@ refused_by_words r source (stop.Words why) before after status is told = refused
 refused_by_words r source stop.Memory before after status is told =
     let here : IsTold (names_or_none r) stop.Memory before after status = record { status = told.status; later = told.later; files = told.files; line = told.line; begun = told.begun } in
     no_memory (names_or_none r) (wanted_by r source) before before after status refl (begins_empty stop.Memory (IsEnding (wanted_by r source) None) before.printed before.printed refl) (omega arith) here
-refused_by_words r source (stop.ReadFailed which) before after status is told = absurd is
-refused_by_words r source (stop.Absent which) before after status is told = absurd is
-refused_by_words r source (stop.TooLong which) before after status is told = absurd is
-refused_by_words r source (stop.Settings what) before after status is told = absurd is
-refused_by_words r source (stop.Capture at what) before after status is told = absurd is
-refused_by_words r source stop.WireFailed before after status is told = absurd is
-refused_by_words r source stop.OrderFailed before after status is told = absurd is
-refused_by_words r source stop.PrintFailed before after status is told = absurd is
+refused_by_words r source why before after status is told = absurd is
 
 pub refused_finished : (r : Result Asked WordsWhy) (source : Source) (e : Stop) (before after : Seen) (result : Finished) → result.report ≡ None → GivesWords (Err e) r → IsTold none e before after result.status
     → IsAnswer (names_or_none r) (wanted_by r source) before after result
@@ -57,25 +50,13 @@ answered r command source before after result is h =
 -- a stop of reading is none of the words
 pub not_by_words : {X Y : Type 0} (view : X → Y) (names : Named) (why : Stop) (read : Result Y Stop) (before after : Seen) (status : ℕ) → IsRead view (Err why) read → IsTold names why before after status → status ≢ 1
 not_by_words view names (stop.Words f) read before after status r told = absurd r
-not_by_words view names (stop.ReadFailed which) read before after status r told = λ one. elim (told.status) [ inl e ↦ absurd (omega (arith, e, one)) | inr e ↦ absurd (omega (arith, e, one)) ]
-not_by_words view names stop.Memory read before after status r told = λ one. elim (told.status) [ inl e ↦ absurd (omega (arith, e, one)) | inr e ↦ absurd (omega (arith, e, one)) ]
-not_by_words view names (stop.Absent which) read before after status r told = λ one. elim (told.status) [ inl e ↦ absurd (omega (arith, e, one)) | inr e ↦ absurd (omega (arith, e, one)) ]
-not_by_words view names (stop.TooLong which) read before after status r told = λ one. elim (told.status) [ inl e ↦ absurd (omega (arith, e, one)) | inr e ↦ absurd (omega (arith, e, one)) ]
-not_by_words view names (stop.Settings what) read before after status r told = λ one. elim (told.status) [ inl e ↦ absurd (omega (arith, e, one)) | inr e ↦ absurd (omega (arith, e, one)) ]
-not_by_words view names (stop.Capture at what) read before after status r told = λ one. elim (told.status) [ inl e ↦ absurd (omega (arith, e, one)) | inr e ↦ absurd (omega (arith, e, one)) ]
 not_by_words view names stop.WireFailed read before after status r told = absurd r
 not_by_words view names stop.OrderFailed read before after status r told = absurd r
 not_by_words view names stop.PrintFailed read before after status r told = absurd r
+not_by_words view names why read before after status r told = λ one. elim (told.status) [ inl e ↦ absurd (omega (arith, e, one)) | inr e ↦ absurd (omega (arith, e, one)) ]
 
 -- words that are refused are refused as words of `trace` too
 pub GivesWords-only_trace : (e : Stop) (r : Result Asked WordsWhy) → GivesWords (Err e) r → GivesWords (Err e) (only_trace r)
 GivesWords-only_trace (stop.Words why) r is = ap only_trace is
 GivesWords-only_trace stop.Memory r is = tt
-GivesWords-only_trace (stop.ReadFailed which) r is = absurd is
-GivesWords-only_trace (stop.Absent which) r is = absurd is
-GivesWords-only_trace (stop.TooLong which) r is = absurd is
-GivesWords-only_trace (stop.Settings what) r is = absurd is
-GivesWords-only_trace (stop.Capture at what) r is = absurd is
-GivesWords-only_trace stop.WireFailed r is = absurd is
-GivesWords-only_trace stop.OrderFailed r is = absurd is
-GivesWords-only_trace stop.PrintFailed r is = absurd is
+GivesWords-only_trace why r is = absurd is

@@ -38,15 +38,15 @@ since names w before mid after result files printed later h = record {
   stopped = λ bad legal. moved names w before mid after result files printed later (h.stopped bad legal);
 }
 
--- `send` answers what the run over its capture does
+-- `send` answers what the run over its captures does
 pub send_read : (names : Named) (source : Source) (load : Load) (before mid after : Seen) (result : Finished) → read_of names source ≡ Ok load → mid.files ≡ before.files → mid.printed ≡ before.printed → before.faults ≤ mid.faults
-    → IsAnswer names (Ok (sending names load.max_frame load.captures)) mid after result → IsAnswer names (work_of (send names) source) before after result
+    → IsAnswer names (Ok (sending names load.settings load.captures)) mid after result → IsAnswer names (work_of (send names) source) before after result
 send_read names source load before mid after result is files printed later h =
-    let w : work_of (send names) source ≡ Ok (sending names load.max_frame load.captures) = ap (as_work names) is in
-    subst (λ (v : Result Work Stop). IsAnswer names v before after result) (sym w) (since names (Ok (sending names load.max_frame load.captures)) before mid after result files printed later h)
+    let w : work_of (send names) source ≡ Ok (sending names load.settings load.captures) = ap (as_work names) is in
+    subst (λ (v : Result Work Stop). IsAnswer names v before after result) (sym w) (since names (Ok (sending names load.settings load.captures)) before mid after result files printed later h)
 
 -- `trace` answers what the replay of its schedule does
-pub trace_read : (file : List ℕ) (source : Source) (bytes : List ℕ) (before mid after : Seen) (result : Finished) → file_at input.File 1048576 (source input.File file) ≡ Ok bytes → mid.files ≡ before.files → mid.printed ≡ before.printed → before.faults ≤ mid.faults
+pub trace_read : (file : List ℕ) (source : Source) (bytes : List ℕ) (before mid after : Seen) (result : Finished) → file_at (input.File 0) 1048576 (source (input.File 0) file) ≡ Ok bytes → mid.files ≡ before.files → mid.printed ≡ before.printed → before.faults ≤ mid.faults
     → IsAnswer (names_asked (trace file)) (Ok (tracing bytes)) mid after result → IsAnswer (names_asked (trace file)) (work_of (trace file) source) before after result
 trace_read file source bytes before mid after result is files printed later h =
     let w : work_of (trace file) source ≡ Ok (tracing bytes) = ap as_replay is in

@@ -1,5 +1,5 @@
 -- A run that stops before its frames are sent: its status, its fault line, and what it leaves.
-use Rattle.std.proofs.Common.{◌≡◌, ◌≢◌, ℕ, ◌<◌, ◌≤◌, ◌⊎◌, List, ◌++◌, Option, None, Result, Ok, Err, refl, sym, ap, subst, ◌∙◌, arith, inl, inr}
+use Rattle.std.proofs.Common.{◌≡◌, ℕ, ◌<◌, ◌≤◌, ◌⊎◌, List, ◌++◌, Option, None, Result, Ok, Err, refl, sym, ap, subst, ◌∙◌, arith, inl, inr}
 use Rattle.ifl_outside.specs.Told.{BothTold}
 use Rattle.ifl_outside.specs.Causes.{Rose}
 use Rattle.ifl_engine.specs.declared.stop.Stop.{Stop}
@@ -16,7 +16,7 @@ use Rattle.ifl_engine.specs.Answer.{CallsFor, Tells, IsReplayed, IsAnswer}
 use Rattle.ifl_engine.specs.Steps.{IsRead, IsReadFailure, IsTold}
 use Rattle.ifl_engine.specs.CutShort.{HasOutput, IsEnding, IsStopOf}
 use Rattle.ifl_engine.proofs.Risen.{risen, risen_late}
-use Rattle.ifl_engine.proofs.ReadLaws.{bytes_of}
+use Rattle.ifl_engine.specs.Loaded.{bytes_of}
 use Rattle.ifl_engine.proofs.CutShort.{Begins, begins_empty, cut_short}
 
 -- what stopped the run is what is called for
@@ -67,23 +67,20 @@ pub no_memory : (names : Named) (w : Result Work Stop) (before mid after : Seen)
 no_memory names w before mid after status files begun later told = gave_up names w stop.Memory before mid after status (inr refl) (inr (inl refl)) (λ five. absurd (omega (arith, five))) files begun later told
 
 abbrev pub as_work : Named → Result Load Stop → Result Work Stop
-as_work names read = read >>= λ load. Ok (sending names load.max_frame load.captures)
+as_work names read = read >>= λ load. Ok (sending names load.settings load.captures)
 
 -- a file that could not be read stops what stands behind it
 pub read_stopped : {X Y : Type 0} (view : X → Y) (names : Named) (w : Result Y Stop → Result Work Stop) (why : Stop) (read : Result Y Stop) (before mid after : Seen) (status : ℕ) → ((e : Stop) → w (Err e) ≡ Err e) → IsRead view (Err why) read → mid.files ≡ before.files → mid.printed ≡ before.printed → before.faults ≤ mid.faults
     → (IsReadFailure why → Rose before.faults mid.faults) → IsTold names why mid after status → IsAnswer names (w read) before after (record { status = status; report = None })
-read_stopped view names w (stop.Words why) read before mid after status passes is files printed later rose told = absurd is
-read_stopped view names w (stop.ReadFailed which) read before mid after status passes is files printed later rose told = stopped names (w read) (stop.ReadFailed which) before mid after status (ap w is ∙ passes (stop.ReadFailed which)) (omega arith) (λ five. rose tt) files printed later told
 read_stopped view names w stop.Memory read before mid after status passes is files printed later rose told = no_memory names (w read) before mid after status files (begins_empty stop.Memory (IsEnding (w read) None) before.printed mid.printed printed) later told
-read_stopped view names w (stop.Absent which) read before mid after status passes is files printed later rose told = stopped names (w read) (stop.Absent which) before mid after status (ap w is ∙ passes (stop.Absent which)) (omega arith) (λ five. absurd (omega (arith, five))) files printed later told
-read_stopped view names w (stop.TooLong which) read before mid after status passes is files printed later rose told = stopped names (w read) (stop.TooLong which) before mid after status (ap w is ∙ passes (stop.TooLong which)) (omega arith) (λ five. absurd (omega (arith, five))) files printed later told
-read_stopped view names w (stop.Settings what) read before mid after status passes is files printed later rose told = stopped names (w read) (stop.Settings what) before mid after status (ap w is ∙ passes (stop.Settings what)) (omega arith) (λ five. absurd (omega (arith, five))) files printed later told
-read_stopped view names w (stop.Capture at what) read before mid after status passes is files printed later rose told = stopped names (w read) (stop.Capture at what) before mid after status (ap w is ∙ passes (stop.Capture at what)) (omega arith) (λ five. absurd (omega (arith, five))) files printed later told
+read_stopped view names w (stop.ReadFailed which) read before mid after status passes is files printed later rose told = stopped names (w read) (stop.ReadFailed which) before mid after status (ap w is ∙ passes (stop.ReadFailed which)) (omega arith) (λ five. rose tt) files printed later told
+read_stopped view names w (stop.Words f) read before mid after status passes is files printed later rose told = absurd is
 read_stopped view names w stop.WireFailed read before mid after status passes is files printed later rose told = absurd is
 read_stopped view names w stop.OrderFailed read before mid after status passes is files printed later rose told = absurd is
 read_stopped view names w stop.PrintFailed read before mid after status passes is files printed later rose told = absurd is
+read_stopped view names w why read before mid after status passes is files printed later rose told = stopped names (w read) why before mid after status (ap w is ∙ passes why) (omega arith) (λ five. absurd (omega (arith, five))) files printed later told
 
--- `send` stopped where its capture was to be read
+-- `send` stopped where its captures were to be read
 pub send_stopped : {X : Type 0} (view : X → Load) (names : Named) (why : Stop) (source : Source) (before mid after : Seen) (status : ℕ) → IsRead view (Err why) (read_of names source) → mid.files ≡ before.files → mid.printed ≡ before.printed → before.faults ≤ mid.faults
     → (IsReadFailure why → Rose before.faults mid.faults) → IsTold names why mid after status → IsAnswer names (work_of (send names) source) before after (record { status = status; report = None })
 send_stopped view names why source before mid after status read files printed later rose told = read_stopped view names (as_work names) why (read_of names source) before mid after status (λ e. refl) read files printed later rose told
@@ -92,6 +89,6 @@ abbrev pub as_replay : Result (List ℕ) Stop → Result Work Stop
 as_replay read = read >>= λ bytes. Ok (tracing bytes)
 
 -- `trace` stopped where its schedule was to be read
-pub trace_stopped : (file : List ℕ) (why : Stop) (source : Source) (before mid after : Seen) (status : ℕ) → IsRead bytes_of (Err why) (file_at input.File 1048576 (source input.File file)) → mid.files ≡ before.files → mid.printed ≡ before.printed → before.faults ≤ mid.faults
+pub trace_stopped : (file : List ℕ) (why : Stop) (source : Source) (before mid after : Seen) (status : ℕ) → IsRead bytes_of (Err why) (file_at (input.File 0) 1048576 (source (input.File 0) file)) → mid.files ≡ before.files → mid.printed ≡ before.printed → before.faults ≤ mid.faults
     → (IsReadFailure why → Rose before.faults mid.faults) → IsTold (names_asked (trace file)) why mid after status → IsAnswer (names_asked (trace file)) (work_of (trace file) source) before after (record { status = status; report = None })
-trace_stopped file why source before mid after status read files printed later rose told = read_stopped bytes_of (names_asked (trace file)) as_replay why (file_at input.File 1048576 (source input.File file)) before mid after status (λ e. refl) read files printed later rose told
+trace_stopped file why source before mid after status read files printed later rose told = read_stopped bytes_of (names_asked (trace file)) as_replay why (file_at (input.File 0) 1048576 (source (input.File 0) file)) before mid after status (λ e. refl) read files printed later rose told

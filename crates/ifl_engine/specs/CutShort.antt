@@ -1,5 +1,5 @@
 -- A run that was cut short: what stopped it, and what was printed by then.
-use Rattle.std.specs.Prelude.{◌≡◌, ◌≢◌, ◌+◌, ◌-◌, ◌^◌, ◌≤◌, ◌⊎◌, ℕ, min, List, [], ◌++◌, take, Option, Some, None, Result, Ok, Err, IfSome, IsSome, IsSomeAnd}
+use Rattle.std.specs.Prelude.{◌≡◌, ◌+◌, ◌-◌, ◌^◌, ◌≤◌, ◌⊎◌, ℕ, min, List, [], ◌++◌, take, Option, Result, Ok, Err, IfSome, IsSome, IsSomeAnd}
 use Rattle.ifl_outside.specs.Told.{BothTold}
 use Rattle.ifl_engine.specs.declared.report.Report.{Report}
 use Rattle.ifl_engine.specs.declared.report.Finished.{Finished}
@@ -20,14 +20,14 @@ RoseTwice before now = min (before + 2) (2 ^ 64 - 1) ≤ now
 
 -- what a run prints at its end: its counters, or the replay of its schedule
 abbrev pub IsEnding : Result Work Stop → Option Report → List ℕ → Type 0
-IsEnding (Ok (sending names max_frame captures)) report text = IsSomeAnd report (λ r. text ≡ counter_text_of r.plain)
+IsEnding (Ok (sending names settings captures)) report text = IsSomeAnd report (λ r. text ≡ counter_text_of r.plain)
 IsEnding (Ok (tracing schedule)) report text = (status : ℕ) × IsReplay schedule text status
 IsEnding (Err why) report text = ⊥
 
 -- what a run puts out at its end can fail: the files and counters of frames that were sent, and the print of a replay
 -- whose every event is legal; a bad schedule keeps its own status
 abbrev pub HasOutput : Result Work Stop → Type 0
-HasOutput (Ok (sending names max_frame captures)) = Unit {0}
+HasOutput (Ok (sending names settings captures)) = Unit {0}
 HasOutput (Ok (tracing schedule)) = IsLegalSchedule schedule
 HasOutput (Err why) = ⊥
 
@@ -40,7 +40,7 @@ IsOfOutput e = ⊥
 
 -- an output of the run failed: without a report nothing was written, and only a replay was printed
 abbrev pub IsOutputStop : Result Work Stop → Option Report → Stop → Type 0
-IsOutputStop (Ok (sending names max_frame captures)) report why = IsSome report × IsOfOutput why
+IsOutputStop (Ok (sending names settings captures)) report why = IsSome report × IsOfOutput why
 IsOutputStop (Ok (tracing schedule)) report why = IsLegalSchedule schedule × (why ≡ stop.PrintFailed)
 IsOutputStop (Err e) report why = ⊥
 

@@ -1,6 +1,7 @@
 -- What the parts of a run do, each on its own.
-use Rattle.std.specs.Prelude.{◌≡◌, ◌≤◌, ◌*◌, ◌⊎◌, ℕ, List, ◌++◌, length, take, Result, Ok, Err}
+use Rattle.std.specs.Prelude.{◌≡◌, ◌<◌, ◌≤◌, ◌*◌, ◌⊎◌, ℕ, List, ◌++◌, length, take, sum_by, All, Result, Ok, Err}
 use Rattle.std.specs.List.{AllByRecursion}
+use Rattle.std.specs.Global.{Vec}
 use Rattle.ifl_outside.specs.Told.{BothTold}
 use Rattle.ifl_outside.specs.Causes.{Rose}
 use Rattle.ifl_outside.specs.declared.fault.HostError.{HostError}
@@ -14,21 +15,32 @@ use Rattle.ifl_engine.specs.Status.{status_of}
 use Rattle.ifl_engine.specs.FaultLines.{line_of}
 use Rattle.ifl_engine.specs.Seen.{Seen}
 
+-- no file is longer than a capture's may be
+abbrev pub AreWithin : List (Vec ℕ) → Type 0
+AreWithin files = All (λ v. length v.items ≤ 67108864) files
+
 -- what a capture of a file within the limit has
 pub record IsSmall (frames : List Frame) : Type 0 where
   pub fit : AllByRecursion Fits frames
   pub few : 16 * length frames ≤ 67108864
 
--- what was read, seen by view, is what is to be read, or it stops for the same cause; memory may run out at any time
+-- what the captures of a run have
+pub record AreSmall (captures : List (List Frame)) : Type 0 where
+  pub some : 0 < length captures
+  pub few : length captures ≤ 16
+  pub each : All IsSmall captures
+  pub frames : sum_by (λ c. length c) captures ≤ 1000000
+
+-- What was read, seen by view, is what is to be read, or it stops for the same cause; memory may run out at any time. A
+-- stop of the words or of an output is none of the reading.
 abbrev pub IsRead : {X Y : Type 0} → (X → Y) → Result X Stop → Result Y Stop → Type 0
 IsRead view (Ok x) read = read ≡ Ok (view x)
 IsRead view (Err stop.Memory) read = Unit {0}
-IsRead view (Err (stop.ReadFailed which)) read = read ≡ Err (stop.ReadFailed which)
-IsRead view (Err (stop.Absent which)) read = read ≡ Err (stop.Absent which)
-IsRead view (Err (stop.TooLong which)) read = read ≡ Err (stop.TooLong which)
-IsRead view (Err (stop.Settings e)) read = read ≡ Err (stop.Settings e)
-IsRead view (Err (stop.Capture at why)) read = read ≡ Err (stop.Capture at why)
-IsRead view (Err e) read = ⊥
+IsRead view (Err (stop.Words why)) read = ⊥
+IsRead view (Err stop.WireFailed) read = ⊥
+IsRead view (Err stop.OrderFailed) read = ⊥
+IsRead view (Err stop.PrintFailed) read = ⊥
+IsRead view (Err e) read = read ≡ Err e
 
 -- the host failed to read a file
 abbrev pub IsReadFailure : Stop → Type 0

@@ -8,12 +8,11 @@ use Rattle.ifl_engine.specs.declared.stop.Stop.TheVariants as stop
 use Rattle.ifl_engine.specs.declared.stop.Input.TheVariants as input
 use Rattle.ifl_engine.specs.Words.{Named, Asked, send, trace, asked}
 use Rattle.ifl_engine.specs.Account.{Source}
-use Rattle.ifl_engine.specs.Loading.{◌>>=◌, file_at, read_of}
+use Rattle.ifl_engine.specs.Loading.{◌>>=◌, Chosen, file_at, read_of}
 
--- to send these captures, of whose frames none may be longer than max_frame, and write under these names; or to replay
--- this schedule's file
+-- to send these captures by these settings, and write under these names; or to replay this schedule's file
 pub data Work : Type 0 where
-  sending : (names : Named) (max_frame : ℕ) (captures : List (List Frame)) → Work
+  sending : (names : Named) (settings : Chosen) (captures : List (List Frame)) → Work
   tracing : (schedule : List ℕ) → Work
 
 abbrev pub in_words : {A : Type 0} → Result A WordsWhy → Result A Stop
@@ -24,9 +23,9 @@ in_words (Err why) = Err (stop.Words why)
 abbrev pub work_of : Asked → Source → Result Work Stop
 work_of (send names) source = do
   load ← read_of names source
-  Ok (sending names load.max_frame load.captures)
+  Ok (sending names load.settings load.captures)
 work_of (trace file) source = do
-  bytes ← file_at input.File 1048576 (source input.File file)
+  bytes ← file_at (input.File 0) 1048576 (source (input.File 0) file)
   Ok (tracing bytes)
 
 -- what is to be done for words that ask for this

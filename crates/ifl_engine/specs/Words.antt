@@ -1,4 +1,4 @@
--- What the words of the command line ask the engine for: to send a capture's frames, or to replay a schedule.
+-- What the words of the command line ask the engine for: to send the frames of captures, or to replay a schedule.
 use Rattle.std.specs.Prelude.{ℕ, List, [], ◌∷◌, Option, None, Some, option_and_then, Result, Ok, Err, if◌then◌else◌, codes}
 use Rattle.std.specs.Str.{bytes_eq}
 use Rattle.ifl_engine.specs.declared.stop.WordsWhy.{WordsWhy}
@@ -17,7 +17,7 @@ pub record Named : Type 0 where
   pub settings : Option (List ℕ)
   pub wire : List ℕ
   pub order : List ℕ
-  pub file : List ℕ
+  pub files : List (List ℕ)
 
 -- what the words ask for
 pub data Asked : Type 0 where
@@ -44,7 +44,7 @@ named gs fs = record {
   settings = value_under (codes "--settings") gs;
   wire = or_empty (value_under (codes "--wire") gs);
   order = or_empty (value_under (codes "--order") gs);
-  file = first_name fs;
+  files = fs;
 }
 
 -- what the command that is written so asks for with these options and FILE words

@@ -2,9 +2,9 @@
 //!
 //! It stands on `ifl_outside` (files, standard output, gates), `ifl_conf` (words and settings), `ifl_pcap` (captures)
 //! and `ifl_ringcore` (replays of schedules). Its one contract is that of [`run`]: at status 0 of `send` the order file lists the accepted
-//! frames, each once, in the order of its capture, with one fate; the wire file is exactly the frames with fate
-//! `wire`, in that order; every other frame stands in one named counter; and every status has its cause. Which frames
-//! are accepted goes by the largest frame of the settings.
+//! frames of one to sixteen senders, each once, those of a sender in the order of its capture, with one fate; the wire
+//! file is exactly the frames with fate `wire`, in that order; every other frame stands in one named counter; and every
+//! status has its cause. Which frames are accepted goes by the largest frame of the settings.
 //!
 //! `specs/` reads in this order: `Words` (what was asked), `Records` (tickets), `Lawful` and `Report` (what a
 //! good report is), `Texts`, `Tracing` (what a replay prints), `Account` (what the files were found to be), `Loading`
@@ -13,6 +13,7 @@
 //! `PlainList` and `Steps` are for the functions below `run`.
 #![tactic(auto)]
 
+mod gathering;
 mod laws;
 mod plain;
 mod reading;

@@ -11,8 +11,8 @@ use ifl_pcap::CaptureWhy;
 pub enum Input {
     /// The settings file.
     Settings,
-    /// The capture, or the schedule.
-    File,
+    /// The FILE of this number, counted from 0: a capture, or the schedule.
+    File(u32),
 }
 
 /// Why words are refused.
@@ -44,16 +44,22 @@ pub enum SettingsWhy {
 pub enum Stop {
     /// The words are refused.
     Words(WordsWhy),
+    /// There are more than 16 FILE words.
+    TooManyFiles,
     /// The host failed to read this file.
     ReadFailed(Input),
     /// There is no such file.
     Absent(Input),
     /// The file is longer than its limit.
     TooLong(Input),
+    /// The captures' files have more than 134,217,728 bytes together.
+    TooManyBytes,
     /// The settings file is refused.
     Settings(SettingsWhy),
-    /// The file is no capture: the first place that is at fault, in bytes from 0, and what is wrong there.
-    Capture { at: u64, why: CaptureWhy },
+    /// The FILE of this number is no capture: the first place that is at fault, in bytes from 0, and what is wrong there.
+    Capture { file: u32, at: u64, why: CaptureWhy },
+    /// The captures have more than 1,000,000 frames together.
+    TooManyFrames,
     /// The host failed to write the wire file.
     WireFailed,
     /// The host failed to write the order file.
@@ -100,6 +106,6 @@ pub fn status(stop: Stop) -> u8
         Stop::Absent(_) => 4,
         Stop::ReadFailed(_) | Stop::WireFailed | Stop::OrderFailed | Stop::PrintFailed => 5,
         Stop::Memory => 6,
-        Stop::TooLong(_) => 7,
+        Stop::TooManyFiles | Stop::TooLong(_) | Stop::TooManyBytes | Stop::TooManyFrames => 7,
     }
 }

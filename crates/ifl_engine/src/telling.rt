@@ -1,7 +1,7 @@
-ghost use Rattle.std.specs.Prelude.{◌≡◌, [], None, IfOk};
+ghost use Rattle.std.specs.Prelude.{◌≡◌, [], ◌∷◌, None, IfOk};
 ghost use Rattle.std.specs.String.{string_bytes};
 ghost use Rattle.ifl_engine.specs.Read.{names_of};
-ghost use Rattle.ifl_engine.specs.FaultLines.{line_for, word_line, setting_line, name_read as name_of_read};
+ghost use Rattle.ifl_engine.specs.FaultLines.{line_for, word_line, setting_line, file_number, name_read as name_of_read};
 ghost use Rattle.ifl_engine.specs.Seen.{seen};
 ghost use Rattle.ifl_engine.specs.Steps.{IsToldBy, IsTold};
 
@@ -40,11 +40,24 @@ fn name_read<'a>(which: Input, settings: &'a str, file: &'a str) -> &'a str
 {
     match which {
         Input::Settings => settings,
-        Input::File => file,
+        Input::File(_) => file,
     }
 }
 
-/// The fault line.
+/// The number of the FILE that a stop is about, or 0 where it is about none.
+fn file_number(stop: Stop) -> u32
+    ensures { result ≡ file_number stop }
+{
+    match stop {
+        Stop::ReadFailed(Input::File(number))
+        | Stop::Absent(Input::File(number))
+        | Stop::TooLong(Input::File(number)) => number,
+        Stop::Capture { file, .. } => file,
+        _ => 0,
+    }
+}
+
+/// The fault line; `file` is the name of the FILE that the stop is about.
 fn fault_line(
     alloc: Global,
     settings: &str,
@@ -57,6 +70,7 @@ fn fault_line(
 {
     match stop {
         Stop::Words(why) => String::from_str(alloc, word_line(why)),
+        Stop::TooManyFiles => String::from_str(alloc, "limit: files\n"),
         Stop::Absent(which) => {
             let name = name_read(which, settings, file);
             format!(in alloc; "absent: {name}\n")
@@ -65,11 +79,13 @@ fn fault_line(
             let name = name_read(which, settings, file);
             format!(in alloc; "limit: {name}\n")
         }
+        Stop::TooManyBytes => String::from_str(alloc, "limit: bytes\n"),
         Stop::Settings(why) => setting_line(alloc, why),
-        Stop::Capture { at, why } => {
+        Stop::Capture { at, why, .. } => {
             let why = why.name();
             format!(in alloc; "capture: {file} at {at}: {why}\n")
         }
+        Stop::TooManyFrames => String::from_str(alloc, "limit: frames\n"),
         Stop::ReadFailed(which) => {
             let name = name_read(which, settings, file);
             format!(in alloc; "host: read {name}\n")
@@ -104,11 +120,20 @@ fn tell_line<H: Host>(
     }
 }
 
-/// The same, where only the name of the capture or schedule may be told; `file` is empty where there is none.
-pub fn tell<H: Host>(alloc: Global, file: &str, stop: Stop, host: &mut H) -> u8
-    ensures { IsTold (record { settings = None; wire = []; order = []; file = file.now }) stop
+/// The same, where no name may be told.
+pub fn tell<H: Host>(alloc: Global, stop: Stop, host: &mut H) -> u8
+    ensures { IsTold (record { settings = None; wire = []; order = []; files = [] }) stop
         (seen H.faults H.files H.printed host.old) (seen H.faults H.files H.printed host.new) result }
 {
+    tell_line(alloc, "", "", "", "", stop, host)
+}
+
+/// The same, where only the name of one FILE may be told.
+pub fn tell_file<H: Host>(alloc: Global, file: &str, stop: Stop, host: &mut H) -> u8
+    ensures { IsTold (record { settings = None; wire = []; order = []; files = file.now ∷ [] }) stop
+        (seen H.faults H.files H.printed host.old) (seen H.faults H.files H.printed host.new) result }
+{
+    let file = if file_number(stop) == 0 { file } else { "" };
     tell_line(alloc, "", "", "", file, stop, host)
 }
 
@@ -122,7 +147,7 @@ pub fn tell_named<H: Host>(alloc: Global, names: &SendWords, stop: Stop, host: &
         settings_name(names),
         names.wire.as_str(),
         names.order.as_str(),
-        file_name(names),
+        file_name(names, file_number(stop)),
         stop,
         host,
     )

@@ -1,4 +1,4 @@
-ghost use Rattle.std.specs.Prelude.{◌≡◌, ◌≢◌, ◌∷◌, [], Ok, None, map};
+ghost use Rattle.std.specs.Prelude.{◌≡◌, ◌≢◌, ◌<◌, [], Ok, None, length, map};
 ghost use Rattle.std.specs.String.{string_bytes};
 ghost use Rattle.ifl_outside.specs.Causes.{Rose};
 ghost use Rattle.ifl_engine.specs.Words.{asked as asked_by_words, send};
@@ -8,10 +8,11 @@ ghost use Rattle.ifl_engine.specs.Wanted.{sending, wanted, work_of};
 ghost use Rattle.ifl_engine.specs.FaultLines.{names_in};
 ghost use Rattle.ifl_engine.specs.Seen.{seen};
 ghost use Rattle.ifl_engine.specs.Answer.{IsAnswer, IsByWords, IsRefusal};
-ghost use Rattle.ifl_engine.specs.Steps.{IsSmall, IsTold};
+ghost use Rattle.ifl_engine.specs.Loaded.{chosen, each_frames};
+ghost use Rattle.ifl_engine.specs.Steps.{AreSmall, IsTold};
 
+use crate::gathering::{Load, gathered};
 use crate::plain::report_of;
-use crate::reading::{Load, gathered};
 use crate::report::Finished;
 use crate::stop::{Stop, WordsWhy};
 use crate::telling::{tell, tell_named};
@@ -25,15 +26,15 @@ use std::alloc::Global;
 use std::sync::Wait;
 use std::thread::Threads;
 
-/// The run over the capture that was read.
+/// The run over the captures that were read.
 fn work<H: Host>(alloc: Global, names: &SendWords, load: Load, host: &mut H) -> Finished
-    requires small { IsSmall load.capture.frames }
+    requires small { AreSmall (each_frames load.captures) }
     requires apart { string_bytes names.now.wire ≢ string_bytes names.now.order }
     ensures by_words { result.status ≢ 1 }
-    ensures answer { IsAnswer (names_of names.now) (Ok (sending (names_of names.now) load.max_frame (load.capture.frames ∷ [])))
+    ensures answer { IsAnswer (names_of names.now) (Ok (sending (names_of names.now) (chosen load.settings) (each_frames load.captures)))
         (seen H.faults H.files H.printed host.old) (seen H.faults H.files H.printed host.new) result }
 {
-    match report_of(alloc, load.max_frame, load.capture) {
+    match report_of(alloc, load.settings.frames.max_frame, load.captures) {
         Err(NoMemory) => {
             let status = tell_named(alloc, names, Stop::Memory, host);
             Finished {
@@ -59,7 +60,8 @@ fn work<H: Host>(alloc: Global, names: &SendWords, load: Load, host: &mut H) -> 
 
 /// The command `send`: reads, runs and writes.
 fn send<H: Host>(alloc: Global, names: &SendWords, host: &mut H) -> Finished
-    requires { string_bytes names.now.wire ≢ string_bytes names.now.order }
+    requires some { 0 < length names.now.files.items }
+    requires apart { string_bytes names.now.wire ≢ string_bytes names.now.order }
     ensures by_words { result.status ≢ 1 }
     ensures answer { ForAccount (H.files host.old) (Rose (H.faults host.old) (H.faults host.new)) (λ source.
         IsAnswer (names_of names.now) (work_of (send (names_of names.now)) source)
@@ -80,10 +82,10 @@ fn send<H: Host>(alloc: Global, names: &SendWords, host: &mut H) -> Finished
 /// The end of a run whose words are refused, or for whose words there was no memory.
 fn refuse<H: Host>(alloc: Global, stop: Stop, host: &mut H) -> Finished
     ensures report { result.report ≡ None }
-    ensures told { IsTold (record { settings = None; wire = []; order = []; file = [] }) stop
+    ensures told { IsTold (record { settings = None; wire = []; order = []; files = [] }) stop
         (seen H.faults H.files H.printed host.old) (seen H.faults H.files H.printed host.new) result.status }
 {
-    let status = tell(alloc, "", stop, host);
+    let status = tell(alloc, stop, host);
     Finished {
         status,
         report: None,

@@ -12,7 +12,7 @@ ghost use Rattle.ifl_engine.specs.Answer.{IsAnswer, IsByWords};
 
 use crate::reading::read_file;
 use crate::stop::{Input, Stop, WordsWhy};
-use crate::telling::tell;
+use crate::telling::{tell, tell_file};
 use crate::words::asked;
 use ifl_base::{Items, NoMemory};
 use ifl_conf::Command;
@@ -65,12 +65,17 @@ fn print_replay<H: Host>(alloc: Global, file: &str, bytes: &[u8], host: &mut H) 
         (seen H.faults H.files H.printed host.old) (seen H.faults H.files H.printed host.new) (record { status = result; report = None }) }
 {
     match replay_of(alloc, bytes) {
-        Err(NoMemory) => tell(alloc, file, Stop::Memory, host),
+        Err(NoMemory) => tell_file(alloc, file, Stop::Memory, host),
         Ok(Replay { text, status }) => match host.print(alloc, text.as_slice()) {
             Ok(()) => status,
-            Err(HostError::Failed) if status == 0 => tell(alloc, file, Stop::PrintFailed, host),
+            Err(HostError::Failed) if status == 0 => tell_file(
+                alloc,
+                file,
+                Stop::PrintFailed,
+                host,
+            ),
             Err(HostError::Failed) => status,
-            Err(HostError::Memory) => tell(alloc, file, Stop::Memory, host),
+            Err(HostError::Memory) => tell_file(alloc, file, Stop::Memory, host),
         },
     }
 }
@@ -82,9 +87,9 @@ pub fn trace<H: Host>(alloc: Global, file: &str, host: &mut H) -> u8
         IsAnswer (names_asked (trace file.now)) (work_of (trace file.now) source)
         (seen H.faults H.files H.printed host.old) (seen H.faults H.files H.printed host.new) (record { status = result; report = None })) }
 {
-    match read_file(alloc, Input::File, file, SCHEDULE_MAX, host) {
+    match read_file(alloc, Input::File(0), file, SCHEDULE_MAX, host) {
         Ok(bytes) => print_replay(alloc, file, &bytes, host),
-        Err(stop) => tell(alloc, file, stop, host),
+        Err(stop) => tell_file(alloc, file, stop, host),
     }
 }
 
@@ -97,10 +102,10 @@ fn answer_trace<H: Host>(alloc: Global, words: &[String], host: &mut H) -> u8
 {
     match asked(alloc, words) {
         Ok(Command::Trace { file }) => trace(alloc, file.as_str(), host),
-        Ok(Command::Send(_)) => tell(alloc, "", Stop::Words(WordsWhy::Refused), host),
-        Ok(Command::Gen(_)) => tell(alloc, "", Stop::Words(WordsWhy::Refused), host),
-        Ok(Command::Check(_)) => tell(alloc, "", Stop::Words(WordsWhy::Refused), host),
-        Err(stop) => tell(alloc, "", stop, host),
+        Ok(Command::Send(_)) => tell(alloc, Stop::Words(WordsWhy::Refused), host),
+        Ok(Command::Gen(_)) => tell(alloc, Stop::Words(WordsWhy::Refused), host),
+        Ok(Command::Check(_)) => tell(alloc, Stop::Words(WordsWhy::Refused), host),
+        Err(stop) => tell(alloc, stop, host),
     }
 }
 

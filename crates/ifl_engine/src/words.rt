@@ -1,6 +1,8 @@
 ghost use Rattle.std.specs.Prelude.{◌≡◌, map, option_map, IfOk};
 ghost use Rattle.std.specs.String.{string_bytes};
-ghost use Rattle.ifl_engine.specs.Words.{asked, or_empty, first_name};
+ghost use Rattle.ifl_engine.specs.Words.{asked, or_empty};
+ghost use Rattle.ifl_engine.specs.FaultLines.{file_named};
+ghost use Rattle.ifl_conf.specs.Commands.{HasFiles};
 ghost use Rattle.ifl_engine.specs.Read.{GivesWords, IsApart};
 
 use crate::stop::{Stop, words_stop};
@@ -10,10 +12,11 @@ use std::alloc::Global;
 /// Reads the words behind the program's name.
 ///
 /// A fault is the first in the order of [`WordFault`](ifl_conf::WordFault); the two files that `send` is to write have
-/// two names.
+/// two names, and it has one FILE at least.
 pub fn asked(alloc: Global, words: &[String]) -> Result<Command, Stop>
     ensures gives { GivesWords result (asked (map string_bytes words.now)) }
     ensures apart { IfOk result IsApart }
+    ensures files { IfOk result HasFiles }
 {
     match read_words(alloc, words) {
         Ok(command) => Ok(command),
@@ -31,12 +34,12 @@ pub fn settings_name(names: &SendWords) -> &str
     }
 }
 
-/// The name of the capture whose frames are sent.
-pub fn file_name(names: &SendWords) -> &str
-    ensures { result.now ≡ first_name (map string_bytes names.now.files.items) }
+/// The name of the FILE of this number, or the empty text where there is none.
+pub fn file_name(names: &SendWords, number: u32) -> &str
+    ensures { result.now ≡ file_named (map string_bytes names.now.files.items) number }
 {
-    match names.files.as_slice() {
-        [file, ..] => file.as_str(),
-        [] => "",
+    match names.files.get(number as usize) {
+        Some(file) => file.as_str(),
+        None => "",
     }
 }

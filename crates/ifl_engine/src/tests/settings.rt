@@ -90,7 +90,7 @@ const ORDER: [(&str, u32, u8, &str); 11] = [
         1,
         "words: names\n",
     ),
-    ("send --wire w --order o f f", 9, 1, "words: refused\n"),
+    ("send --wire w --order o f -f", 9, 1, "words: refused\n"),
     (
         "send --wire w --order o --in f --host h f",
         9,

@@ -18,10 +18,10 @@ returns-in-Ok-clause-answer g c =
 
 pub returns-in-Err-clause-answer : goal.returns-in-Err-clause-answer
 returns-in-Err-clause-answer g c =
-    for_each (g.H.Host.files c.args.host.now) _ _ _ _ (λ rose. risen (g.H.Host.faults c.args.host.now) (g.H.Host.faults c.read_file.new.host) (g.H.Host.faults c.tell.new.host) rose c.tell.ensures.later)
+    for_each (g.H.Host.files c.args.host.now) _ _ _ _ (λ rose. risen (g.H.Host.faults c.args.host.now) (g.H.Host.faults c.read_file.new.host) (g.H.Host.faults c.tell_file.new.host) rose c.tell_file.ensures.later)
     (λ source read. trace_stopped c.args.file.now c.in-Err.stop source
     (seen g.H.Host.faults g.H.Host.files g.H.Host.printed c.args.host.now)
     (seen g.H.Host.faults g.H.Host.files g.H.Host.printed c.read_file.new.host)
-    (seen g.H.Host.faults g.H.Host.files g.H.Host.printed c.tell.new.host)
-    c.tell.result read c.in-Err.ensures.files c.in-Err.ensures.printed c.in-Err.ensures.later (λ e. c.in-Err.ensures.failed e) c.tell.ensures)
+    (seen g.H.Host.faults g.H.Host.files g.H.Host.printed c.tell_file.new.host)
+    c.tell_file.result read c.in-Err.ensures.files c.in-Err.ensures.printed c.in-Err.ensures.later (λ e. c.in-Err.ensures.failed e) c.tell_file.ensures)
     c.in-Err.ensures.read
