@@ -16,3 +16,8 @@ pub mod Taking
 pub mod Doubling
 pub mod Resting
 pub mod Loading
+pub mod Returning
+pub mod Wiring
+pub mod Ordering
+pub mod Listing
+pub mod Closed

@@ -1,6 +1,6 @@
 -- The jobs of a run, one after another.
 use Rattle.std.proofs.Common.{◌≡◌, ℕ, zero, suc, ◌+◌, ◌<◌, List, [], ◌∷◌, ◌++◌, length, append-nil, sym, refl, ap, ◌∙◌, subst, arith}
-use Rattle.std.specs.Prelude.{slice_index_or, remove}
+use Rattle.std.specs.Prelude.{slice_index_or}
 use Rattle.ifl_pcap.specs.declared.capture.Capture.{Capture}
 use Rattle.ifl_pcap.specs.declared.frame.Frame.{Frame}
 use Rattle.ifl_pool.specs.declared.history.Counts.{Counts}
@@ -15,7 +15,7 @@ use Rattle.ifl_line.specs.declared.away_line.AwayLine.{AwayLine}
 use Rattle.ifl_line.specs.declared.gathering.Ended.{Ended}
 use Rattle.ifl_line.specs.declared.jobs.Job.{Job}
 use Rattle.ifl_line.specs.declared.jobs.Task.{Task}
-use Rattle.ifl_line.specs.declared.jobs.Task.TheVariants.{Work, Send}
+use Rattle.ifl_line.specs.declared.jobs.Task.TheVariants.{Work, Send, Done}
 use Rattle.ifl_line.specs.declared.line.Line.{Line}
 use Rattle.ifl_line.specs.declared.rules.Rules.{Rules}
 use Rattle.ifl_line.specs.Jobs.{MayDo, HasDone, MayBegin, HasEnded}
@@ -67,11 +67,6 @@ worker_taken size r xs v w t c merged only before = kicks_taken size r xs (event
 pub kicks_behind : (size : ℕ) (r : Rules) (xs : List Ended) (v w : Known) (es : List Entry) (c : Counts) → Stepped v es w → OnlyKicks es → IsSent size r 0 (files_in xs) (turned_in xs) (events v) c → IsSent size r 0 (files_in xs) (turned_in xs) (events w) c
 kicks_behind size r xs v w es c stepped only before = subst (λ (z : List Entry). IsSent size r 0 (files_in xs) (turned_in xs) z c) (sym stepped.made) (kicks_taken size r xs (events v) es (events v ++ es) c (merge_append (events v) es) only before)
 
--- the first of a list, and what is left without it
-pub first_off : {X : Type 0} (xs : List X) (x : X) → 0 < length xs → x ≡ slice_index_or xs 0 x → xs ≡ x ∷ remove xs 0
-first_off [] x lt is = absurd (omega arith)
-first_off (y ∷ ys) x lt is = λ i. sym is i ∷ ys
-
 -- ---- lists of tasks
 
 module _ {R A B C : Type 0} where
@@ -79,26 +74,31 @@ module _ {R A B C : Type 0} where
   ended_in-append [] ys = refl
   ended_in-append (Work x ∷ xs) ys = ended_in-append xs ys
   ended_in-append (Send x ∷ xs) ys = ap (λ (z : List Ended). record { capture = x.capture; away = x.sender.away } ∷ z) (ended_in-append xs ys)
+  ended_in-append (Done ∷ xs) ys = ended_in-append xs ys
 
   pub captures_in-append : (xs ys : List (Task R A B C)) → captures_in (xs ++ ys) ≡ captures_in xs ++ captures_in ys
   captures_in-append [] ys = refl
   captures_in-append (Work x ∷ xs) ys = captures_in-append xs ys
   captures_in-append (Send x ∷ xs) ys = ap (λ (z : List Capture). x.capture ∷ z) (captures_in-append xs ys)
+  captures_in-append (Done ∷ xs) ys = captures_in-append xs ys
 
   pub ring_parts-append : (xs ys : List (Task R A B C)) → ring_parts (xs ++ ys) ≡ ring_parts xs + ring_parts ys
   ring_parts-append [] ys = omega arith
   ring_parts-append (Work x ∷ xs) ys = let t = ring_parts-append xs ys in omega arith
   ring_parts-append (Send x ∷ xs) ys = let t = ring_parts-append xs ys in omega arith
+  ring_parts-append (Done ∷ xs) ys = ring_parts-append xs ys
 
   pub turn_parts-append : (xs ys : List (Task R A B C)) → turn_parts (xs ++ ys) ≡ turn_parts xs + turn_parts ys
   turn_parts-append [] ys = omega arith
   turn_parts-append (Work x ∷ xs) ys = let t = turn_parts-append xs ys in omega arith
   turn_parts-append (Send x ∷ xs) ys = let t = turn_parts-append xs ys in omega arith
+  turn_parts-append (Done ∷ xs) ys = turn_parts-append xs ys
 
   pub pass_parts-append : (xs ys : List (Task R A B C)) → pass_parts (xs ++ ys) ≡ pass_parts xs + pass_parts ys
   pass_parts-append [] ys = omega arith
   pass_parts-append (Work x ∷ xs) ys = pass_parts-append xs ys
   pass_parts-append (Send x ∷ xs) ys = let t = pass_parts-append xs ys in omega arith
+  pass_parts-append (Done ∷ xs) ys = pass_parts-append xs ys
 
   pub tasks_of-append : (xs ys : List (Job R A B C)) → tasks_of (xs ++ ys) ≡ tasks_of xs ++ tasks_of ys
   tasks_of-append [] ys = refl
@@ -112,10 +112,12 @@ module _ {R A B C : Type 0} where
   pub done_first : (line : Line R A B C) (s : ℕ) (x : Task R A B C) (xs : List (Task R A B C)) → AreDone line s (x ∷ xs) → AreDone line s (x ∷ [])
   done_first line s (Work x) xs (is, only, more) = (is, only, tt)
   done_first line s (Send x) xs (of, sent, more) = (of, sent, tt)
+  done_first line s Done xs more = tt
 
   pub done_rest : (line : Line R A B C) (s : ℕ) (x : Task R A B C) (xs : List (Task R A B C)) → AreDone line s (x ∷ xs) → AreDone line (s + length (ended_in (x ∷ []))) xs
   done_rest line s (Work x) xs (is, only, more) = let e : s + 0 ≡ s = omega arith in subst (λ (z : ℕ). AreDone line z xs) (sym e) more
   done_rest line s (Send x) xs (of, sent, more) = more
+  done_rest line s Done xs more = let e : s + 0 ≡ s = omega arith in subst (λ (z : ℕ). AreDone line z xs) (sym e) more
 
   -- further tasks behind
   pub set_more : (line : Line R A B C) (s : ℕ) (xs ys : List (Task R A B C)) → AreSet line s xs → AreSet line (s + length (captures_in xs)) ys → AreSet line s (xs ++ ys)
@@ -123,14 +125,17 @@ module _ {R A B C : Type 0} where
   set_more line s (Work x ∷ xs) ys (may, silent, more) b = (may, silent, set_more line s xs ys more b)
   set_more line s (Send x ∷ xs) ys (may, is, more) b = let e : s + suc (length (captures_in xs)) ≡ s + 1 + length (captures_in xs) = omega arith in
       (may, is, set_more line (s + 1) xs ys more (subst (λ (z : ℕ). AreSet line z ys) e b))
+  set_more line s (Done ∷ xs) ys more b = set_more line s xs ys more b
 
   set_first : (line : Line R A B C) (s : ℕ) (x : Task R A B C) (xs : List (Task R A B C)) → AreSet line s (x ∷ xs) → MayDo line x
   set_first line s (Work x) xs (may, silent, more) = may
   set_first line s (Send x) xs (may, is, more) = may
+  set_first line s Done xs more = tt
 
   set_rest : (line : Line R A B C) (s : ℕ) (x : Task R A B C) (xs : List (Task R A B C)) → AreSet line s (x ∷ xs) → (t : ℕ) × AreSet line t xs
   set_rest line s (Work x) xs (may, silent, more) = (s, more)
   set_rest line s (Send x) xs (may, is, more) = (s + 1, more)
+  set_rest line s Done xs more = (s, more)
 
   -- each job may begin
   pub set_may : (line : Line R A B C) (s : ℕ) (js : List (Job R A B C)) → AreAt line js → AreSet line s (tasks_of js) → (i : ℕ) (d : Job R A B C) → i < length js → MayBegin (slice_index_or js i d)
@@ -160,7 +165,13 @@ module _ {R A B C : Type 0} where
         passes = rest.passes;
       }
   all_done line s (Work x ∷ xs) (Send y ∷ ys) set (h, each) = absurd h
+  all_done line s (Work x ∷ xs) (Done ∷ ys) set (h, each) = absurd h
   all_done line s (Send x ∷ xs) (Work y ∷ ys) set (h, each) = absurd h
+  all_done line s (Send x ∷ xs) (Done ∷ ys) set (h, each) = absurd h
+  all_done line s (Done ∷ xs) (Work y ∷ ys) set (h, each) = absurd h
+  all_done line s (Done ∷ xs) (Send y ∷ ys) set (h, each) = absurd h
+  all_done line s (Done ∷ xs) (Done ∷ ys) set (h, each) =
+      let rest = all_done line s xs ys set each in record { done = rest.done; captures = rest.captures; rings = rest.rings; turns = rest.turns; passes = rest.passes }
   all_done line s (Send x ∷ xs) (Send y ∷ ys) (may, is, set) (h, each) =
       let rest = all_done line (s + 1) xs ys set each in
       let ring = h.parts.ring_part in let turn = h.parts.turn_part in let pass = h.parts.pass_part in let rings = rest.rings in let turns = rest.turns in let passes = rest.passes in record {

@@ -4,7 +4,7 @@ use Rattle.std.specs.VecDeque.{deque_capacity}
 use Rattle.ifl_ringcore.specs.declared.history.Entry.{Entry}
 use Rattle.ifl_line.specs.declared.jobs.Job.{Job}
 use Rattle.ifl_line.specs.declared.jobs.Task.{Task}
-use Rattle.ifl_line.specs.declared.jobs.Task.TheVariants.{Work, Send}
+use Rattle.ifl_line.specs.declared.jobs.Task.TheVariants.{Work, Send, Done}
 use Rattle.ifl_line.specs.declared.line.Line.{Line}
 use Rattle.ifl_line.specs.declared.working.Worker.{Worker}
 use Rattle.ifl_line.specs.Hands.{AreSeats}
@@ -28,12 +28,18 @@ pub record HasWorked {R A B C : Type 0} (line : Line R A B C) (old new : Worker 
 abbrev pub MayDo : {R A B C : Type 0} → Line R A B C → Task R A B C → Type 0
 MayDo line (Work x) = MayWork line x
 MayDo line (Send x) = MayStart line x
+MayDo line Done = Unit {0}
 
 abbrev pub HasDone : {R A B C : Type 0} → Line R A B C → Task R A B C → Task R A B C → Type 0
 HasDone line (Work x) (Work y) = HasWorked line x y
 HasDone line (Work x) (Send y) = ⊥
+HasDone line (Work x) Done = ⊥
 HasDone line (Send x) (Work y) = ⊥
 HasDone line (Send x) (Send y) = HasRun line x y
+HasDone line (Send x) Done = ⊥
+HasDone line Done (Work y) = ⊥
+HasDone line Done (Send y) = ⊥
+HasDone line Done Done = Unit {0}
 
 -- the job may begin
 abbrev pub MayBegin : {R A B C : Type 0} → Job R A B C → Type 0

@@ -11,3 +11,7 @@ pub mod Runners
 pub mod Jobs
 pub mod Works
 pub mod Loads
+pub mod Passes
+pub mod Lines
+pub mod Good
+pub mod Remains

@@ -7,7 +7,7 @@ use Rattle.ifl_line.specs.declared.away_line.AwayLine.{AwayLine}
 use Rattle.ifl_line.specs.declared.gathering.Ended.{Ended}
 use Rattle.ifl_line.specs.declared.jobs.Job.{Job}
 use Rattle.ifl_line.specs.declared.jobs.Task.{Task}
-use Rattle.ifl_line.specs.declared.jobs.Task.TheVariants.{Work, Send}
+use Rattle.ifl_line.specs.declared.jobs.Task.TheVariants.{Work, Send, Done}
 use Rattle.ifl_line.specs.declared.line.Line.{Line}
 use Rattle.ifl_line.specs.Hands.{AreOf, AreSeats}
 use Rattle.ifl_line.specs.Jobs.{MayDo}
@@ -18,6 +18,11 @@ use Rattle.ifl_line.specs.Steps.{OnlyKicks}
 abbrev pub AreFew : List Capture → Type 0
 AreFew [] = Unit {0}
 AreFew (c ∷ cs) = (length c.frames ≤ 1000000) × AreFew cs
+
+-- the frames of each capture
+abbrev pub files_of : List Capture → List (List Frame)
+files_of [] = []
+files_of (c ∷ cs) = c.frames ∷ files_of cs
 
 -- the captures that senders leave, their frames, and the lines
 abbrev pub captures_of : List Ended → List Capture
@@ -47,34 +52,40 @@ module _ {R A B C : Type 0} where
   captures_in [] = []
   captures_in (Work x ∷ xs) = captures_in xs
   captures_in (Send x ∷ xs) = x.capture ∷ captures_in xs
+  captures_in (Done ∷ xs) = captures_in xs
 
   -- what the senders leave, in order
   abbrev pub ended_in : List (Task R A B C) → List Ended
   ended_in [] = []
   ended_in (Work x ∷ xs) = ended_in xs
   ended_in (Send x ∷ xs) = record { capture = x.capture; away = x.sender.away } ∷ ended_in xs
+  ended_in (Done ∷ xs) = ended_in xs
 
   -- the parts of the ring, of the turnstile and of the pool that they have
   abbrev pub ring_parts : List (Task R A B C) → ℕ
   ring_parts [] = 0
   ring_parts (Work x ∷ xs) = x.seats.ring.known.part + ring_parts xs
   ring_parts (Send x ∷ xs) = x.hands.seats.ring.known.part + ring_parts xs
+  ring_parts (Done ∷ xs) = ring_parts xs
 
   abbrev pub turn_parts : List (Task R A B C) → ℕ
   turn_parts [] = 0
   turn_parts (Work x ∷ xs) = x.seats.turn.part + turn_parts xs
   turn_parts (Send x ∷ xs) = x.hands.seats.turn.part + turn_parts xs
+  turn_parts (Done ∷ xs) = turn_parts xs
 
   abbrev pub pass_parts : List (Task R A B C) → ℕ
   pass_parts [] = 0
   pass_parts (Work x ∷ xs) = pass_parts xs
   pass_parts (Send x ∷ xs) = x.hands.pass.known.part + pass_parts xs
+  pass_parts (Done ∷ xs) = pass_parts xs
 
   -- they may begin, and have done nothing yet; the senders have the numbers from s on
   abbrev pub AreSet : Line R A B C → ℕ → List (Task R A B C) → Type 0
   AreSet line s [] = Unit {0}
   AreSet line s (Work x ∷ xs) = MayDo line (Work x) × (events x.seats.ring.known ≡ []) × AreSet line s xs
   AreSet line s (Send x ∷ xs) = MayDo line (Send x) × (x.sender.number ≡ s) × AreSet line (s + 1) xs
+  AreSet line s (Done ∷ xs) = AreSet line s xs
 
   -- they are done, and each is a part of the run
   abbrev pub AreDone : Line R A B C → ℕ → List (Task R A B C) → Type 0
@@ -82,6 +93,7 @@ module _ {R A B C : Type 0} where
   AreDone line s (Work x ∷ xs) = AreSeats line x.seats × OnlyKicks (events x.seats.ring.known) × AreDone line s xs
   AreDone line s (Send x ∷ xs) =
       AreOf line x.hands × IsSent line.ring.size line.rules s (x.capture.frames ∷ []) (x.sender.away.items ∷ []) (events x.hands.seats.ring.known) x.hands.pass.known.counts × AreDone line (s + 1) xs
+  AreDone line s (Done ∷ xs) = AreDone line s xs
 
   -- the tasks ys are what the tasks xs came to: they are done, and have the captures and the parts that those had
   pub record AllDone (line : Line R A B C) (s : ℕ) (xs ys : List (Task R A B C)) : Type 0 where

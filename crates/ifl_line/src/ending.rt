@@ -7,6 +7,7 @@ ghost use Rattle.ifl_device.specs.Origin.{made_with};
 ghost use Rattle.ifl_reset.specs.Quiet.{IsQuiet};
 ghost use Rattle.ifl_ring.specs.Closed.{IsEnded};
 ghost use Rattle.ifl_ring.specs.Seats.{events};
+ghost use Rattle.ifl_ringcore.specs.Counters.{capped, counters_of};
 ghost use Rattle.ifl_ringcore.specs.History.{state_after};
 ghost use Rattle.ifl_ringcore.specs.State.{first_state};
 ghost use Rattle.ifl_txq.specs.Queue.{IsQueue, IsRung, origin_of};
@@ -21,6 +22,7 @@ use ifl_device::TxEngine;
 use ifl_pool::PoolPass;
 use ifl_reset::empty_out;
 use ifl_ring::ClosedRing;
+use ifl_ringcore::Counters;
 use ifl_txq::{Item, QueueOrigin, Txq};
 use std::sync::Wait;
 
@@ -29,6 +31,8 @@ use std::sync::Wait;
 pub struct Ends<'a, R: DescRing> {
     /// The ring, closed.
     pub ring: ClosedRing<Item, QueueOrigin<R>>,
+    /// What all seats of the ring counted.
+    pub counters: Counters,
     /// The queue, of which nothing is outstanding.
     pub queue: Txq<'a, R>,
     /// The engine, which holds nothing.
@@ -53,6 +57,8 @@ pub fn close<'a, R: DescRing, W: Wait>(
     ensures ring { (result.ring.size ≡ line.entry.ring.size) × IsEnded line.entry.ring.size result.ring.history }
     ensures left { result.ring.left ≡ [] }
     ensures history { result.ring.history ≡ events hands.entry.seats.ring.known }
+    ensures counters { result.counters ≡ capped (counters_of first_state result.ring.history) }
+    ensures rest { IsQuiet (state_after first_state result.ring.history) }
     ensures queue { (origin_of result.queue ≡ line.entry.ring.origin) × IsQueue result.queue × IsRung result.queue.driver × (posted result.queue.driver ≡ result.queue.driver.back) }
     ensures stands { QueueStandsFor result.queue (published result.ring.history) }
     ensures engine { IsEngine result.engine × (result.engine.held ≡ []) × (line.entry.turnstile.origin ≡ Some (made_with result.engine)) }
@@ -68,11 +74,13 @@ pub fn close<'a, R: DescRing, W: Wait>(
         senders: _,
         ended: _,
     } = line;
+    let counters = seat.tally();
     let (ring, mut queue) = ring.close(seat);
     let mut engine = turnstile.close(turn);
     empty_out(rt, &mut queue, &mut engine, rules.turn_frames);
     Ends {
         ring,
+        counters,
         queue,
         engine,
         pass,

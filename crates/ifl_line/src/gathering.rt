@@ -11,6 +11,7 @@ use crate::jobs::{Job, Task};
 use crate::line::Line;
 use ifl_desc::DescRing;
 use ifl_pcap::Capture;
+use std::mem::replace;
 
 /// What a sender leaves.
 #[derive(Drop)]
@@ -49,31 +50,31 @@ fn take_in<'a, R: DescRing>(
                 away: runner.sender.away,
             });
         }
+        Task::Done => {}
     }
 }
 
-/// Takes the hands of all jobs in, of which none is left, and answers what the senders leave, in order, in the empty `Vec` that is given.
+/// Takes the hands of all jobs in, and answers what the senders leave, in order, in the empty `Vec` that is given.
 pub(crate) fn gather<'l, 'a, R: DescRing>(
     line: &Line<'a, R>,
     hands: &mut Hands<'a, R>,
-    jobs: &mut Vec<Job<'l, 'a, R>>,
+    jobs: &mut [Job<'l, 'a, R>],
     ended: Vec<Ended>,
 ) -> Vec<Ended>
     requires own { AreOf line.now hands.old }
     requires fresh { AreFresh hands.old }
-    requires done { AreDone line.now 0 (tasks_of jobs.old.items) }
-    requires room { (ended.items ≡ []) × (vec_len jobs.old ≤ vec_capacity ended) }
+    requires done { AreDone line.now 0 (tasks_of jobs.old) }
+    requires room { (ended.items ≡ []) × (length jobs.old ≤ vec_capacity ended) }
     ensures own { AreOf line.now hands.new }
-    ensures jobs { jobs.new.items ≡ [] }
     ensures sent { IsSent line.now.ring.size line.now.rules 0 (files_in result.items) (turned_in result.items) (events hands.new.seats.ring.known) hands.new.pass.known.counts }
-    ensures ended { result.items ≡ ended_in (tasks_of jobs.old.items) }
-    ensures ring { hands.new.seats.ring.known.part ≡ hands.old.seats.ring.known.part + ring_parts (tasks_of jobs.old.items) }
-    ensures turn { hands.new.seats.turn.part ≡ hands.old.seats.turn.part + turn_parts (tasks_of jobs.old.items) }
-    ensures pass { hands.new.pass.known.part ≡ hands.old.pass.known.part + pass_parts (tasks_of jobs.old.items) }
+    ensures ended { result.items ≡ ended_in (tasks_of jobs.old) }
+    ensures ring { hands.new.seats.ring.known.part ≡ hands.old.seats.ring.known.part + ring_parts (tasks_of jobs.old) }
+    ensures turn { hands.new.seats.turn.part ≡ hands.old.seats.turn.part + turn_parts (tasks_of jobs.old) }
+    ensures pass { hands.new.pass.known.part ≡ hands.old.pass.known.part + pass_parts (tasks_of jobs.old) }
 {
     let mut ended = ended;
-    while !jobs.is_empty() {
-        let Job { line: _, task } = jobs.remove(0);
+    for index in 0..jobs.len() {
+        let task = replace(&mut jobs[index].task, Task::Done);
         take_in(line, hands, &mut ended, task);
     }
     ended

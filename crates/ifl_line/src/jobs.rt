@@ -18,6 +18,8 @@ pub enum Task<'a, R: DescRing> {
     Work(Worker<'a, R>),
     /// Sends one capture.
     Send(Runner<'a, R>),
+    /// Nothing any more: its hands were taken in.
+    Done,
 }
 
 /// What one thread of a run does, and over which line.
@@ -40,6 +42,7 @@ fn run_task<'a, R: DescRing, W: Wait, G: Gate>(
     match task {
         Task::Work(worker) => work(rt, line, gate, worker),
         Task::Send(runner) => run_one(rt, line, gate, runner),
+        Task::Done => {}
     }
 }
 

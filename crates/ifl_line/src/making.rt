@@ -128,6 +128,7 @@ pub fn make_jobs<'l, 'a, R: DescRing>(
     ensures own { AreOf line.now hands.new × AreFresh hands.new }
     ensures jobs { AreAt line.now result.items × AreSet line.now 0 (tasks_of result.items) }
     ensures captures { captures_in (tasks_of result.items) ≡ loaded loads.items }
+    ensures count { length result.items ≡ length loads.items + 1 }
     ensures ring { hands.new.seats.ring.known.part + ring_parts (tasks_of result.items) ≡ hands.old.seats.ring.known.part }
     ensures turn { hands.new.seats.turn.part + turn_parts (tasks_of result.items) ≡ hands.old.seats.turn.part }
     ensures pass { hands.new.pass.known.part + pass_parts (tasks_of result.items) ≡ hands.old.pass.known.part }

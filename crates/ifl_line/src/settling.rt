@@ -1,5 +1,5 @@
 //! From the last frame to a ring at rest.
-ghost use Rattle.std.specs.Prelude.{◌≡◌, ◌+◌, ◌≤◌, [], vec_len, vec_capacity};
+ghost use Rattle.std.specs.Prelude.{◌≡◌, ◌+◌, ◌≤◌, [], length, vec_capacity};
 ghost use Rattle.std.specs.VecDeque.{deque_capacity};
 ghost use Rattle.ifl_line.specs.Hands.{AreOf, AreSeats, AreFresh};
 ghost use Rattle.ifl_line.specs.Sent.{IsSent};
@@ -49,27 +49,26 @@ fn rest<'a, R: DescRing, W: Wait, G: Gate>(
 }
 
 /// Takes the hands of all jobs in, once they have ended, and serves and consumes until the ring is at rest. It takes no
-/// memory: what the senders leave, in order, lies in the empty `Vec` that is given, and none of the jobs is left.
-pub fn settle<'l, 'a, R: DescRing, W: Wait, G: Gate>(
+/// memory: what the senders leave, in order, lies in the empty `Vec` that is given.
+pub(crate) fn settle<'l, 'a, R: DescRing, W: Wait, G: Gate>(
     rt: &W,
     line: &Line<'a, R>,
     hands: &mut Hands<'a, R>,
-    jobs: &mut Vec<Job<'l, 'a, R>>,
+    jobs: &mut [Job<'l, 'a, R>],
     kick: &mut VecDeque<Item>,
     room: Vec<Ended>,
     gate: &G,
 ) -> Vec<Ended>
     requires own { AreOf line.now hands.old }
     requires fresh { AreFresh hands.old }
-    requires done { AreDone line.now 0 (tasks_of jobs.old.items) }
+    requires done { AreDone line.now 0 (tasks_of jobs.old) }
     requires kick { (kick.old.items ≡ []) × (1 ≤ deque_capacity kick.old) }
-    requires room { (room.items ≡ []) × (vec_len jobs.old ≤ vec_capacity room) }
+    requires room { (room.items ≡ []) × (length jobs.old ≤ vec_capacity room) }
     ensures own { AreOf line.now hands.new }
-    ensures jobs { jobs.new.items ≡ [] }
-    ensures ring { hands.new.seats.ring.known.part ≡ hands.old.seats.ring.known.part + ring_parts (tasks_of jobs.old.items) }
-    ensures turn { hands.new.seats.turn.part ≡ hands.old.seats.turn.part + turn_parts (tasks_of jobs.old.items) }
-    ensures pass { hands.new.pass.known.part ≡ hands.old.pass.known.part + pass_parts (tasks_of jobs.old.items) }
-    ensures ended { result.items ≡ ended_in (tasks_of jobs.old.items) }
+    ensures ring { hands.new.seats.ring.known.part ≡ hands.old.seats.ring.known.part + ring_parts (tasks_of jobs.old) }
+    ensures turn { hands.new.seats.turn.part ≡ hands.old.seats.turn.part + turn_parts (tasks_of jobs.old) }
+    ensures pass { hands.new.pass.known.part ≡ hands.old.pass.known.part + pass_parts (tasks_of jobs.old) }
+    ensures ended { result.items ≡ ended_in (tasks_of jobs.old) }
     ensures sent { IsSent line.now.ring.size line.now.rules 0 (files_in result.items) (turned_in result.items) (events hands.new.seats.ring.known) hands.new.pass.known.counts }
     ensures quiet { IsQuiet (state_after first_state hands.new.seats.ring.known.seen) }
 {

@@ -35,6 +35,7 @@ loop-load-init g c = let line = c.args.line.now in let gives = c.into_iter-load-
       refl,
       refl,
       omega arith,
+      omega arith,
     )
 
 pub make_runner-runner-requires-clause-part : goal.make_runner-runner-requires-clause-part
@@ -63,7 +64,7 @@ loop-load-preserved g c = let line = c.args.line.now in let at = c.loop-load in 
     let a : ring_parts (tasks_of c.push_reserved-in-loop-load.new.self.items) ≡ ring_parts had_tasks + ring_parts (Send y ∷ []) = ap ring_parts tasks ∙ ring_parts-append had_tasks (Send y ∷ []) in
     let d : turn_parts (tasks_of c.push_reserved-in-loop-load.new.self.items) ≡ turn_parts had_tasks + turn_parts (Send y ∷ []) = ap turn_parts tasks ∙ turn_parts-append had_tasks (Send y ∷ []) in
     let b : pass_parts (tasks_of c.push_reserved-in-loop-load.new.self.items) ≡ pass_parts had_tasks + pass_parts (Send y ∷ []) = ap pass_parts tasks ∙ pass_parts-append had_tasks (Send y ∷ []) in
-    let sum = i.11 in let spins = i.12 in let total = i.13 in let room = i.14 in let longer = length-append at.yielded (x ∷ []) in let len = push.len in let kept = push.capacity in
+    let sum = i.11 in let spins = i.12 in let total = i.13 in let room = i.14 in let longer = length-append at.yielded (x ∷ []) in let count = i.15 in let grown = ap length all ∙ length-append at.jobs.items (j ∷ []) in let len = push.len in let kept = push.capacity in
     let named : y.sender.number ≡ 0 + length (captures_in had_tasks) = (let e = made.named.1 in let n = loads.1 in let f = ap length i.10 in let k = length-loaded at.yielded in omega arith) in
     let more : length at.yielded + 1 ≡ length (at.yielded ++ x ∷ []) = omega arith in (
       append_assoc at.yielded (x ∷ []) _ ∙ rw (← steps) at.invariant.0,
@@ -77,6 +78,7 @@ loop-load-preserved g c = let line = c.args.line.now in let at = c.loop-load in 
       subst (λ (z : List (Job _ _ _ _)). AreAt line z) (sym all) (at-append line at.jobs.items (j ∷ []) i.8 (refl, tt)),
       subst (λ (z : List (Task _ _ _ _)). AreSet line 0 z) (sym tasks) (set_more line 0 had_tasks (Send y ∷ []) i.9 (made.runner, named, tt)),
       ap captures_in tasks ∙ captures_in-append had_tasks (Send y ∷ []) ∙ (λ k. i.10 k ++ made.named.0 k ∷ []) ∙ sym (loaded-append at.yielded (x ∷ [])),
+      omega arith,
       omega arith,
       omega arith,
       omega arith,

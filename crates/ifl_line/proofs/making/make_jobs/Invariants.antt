@@ -23,3 +23,4 @@ invariant-loop-load g l = (l.yielded ++ into_iter_items l.load-iterator ≡ into
     × (l.hands.seats.turn.part + turn_parts (tasks_of l.jobs.items) ≡ l.initial.hands.seats.turn.part + turn_parts (tasks_of l.initial.jobs.items))
     × (l.hands.pass.known.part + pass_parts (tasks_of l.jobs.items) ≡ l.initial.hands.pass.known.part + pass_parts (tasks_of l.initial.jobs.items))
     × (vec_len l.jobs + length (into_iter_items l.load-iterator) ≤ vec_capacity l.jobs)
+    × (length l.jobs.items ≡ length l.yielded + 1)
