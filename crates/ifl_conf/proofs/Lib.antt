@@ -6,5 +6,4 @@ pub mod SpelledWords
 pub mod PlainWords
 pub mod Utf8Texts
 pub mod ServedForms
-pub mod ServedSettings
 pub mod FileSpelling

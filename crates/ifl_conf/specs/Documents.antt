@@ -12,7 +12,6 @@ use Rattle.ifl_conf.specs.declared.setting_fault.SettingFault.{SettingFault}
 use Rattle.ifl_conf.specs.declared.setting_fault.SettingFault.TheVariants.{Text, Unknown, Key, Memory}
 use Rattle.ifl_conf.specs.Parts.{parts}
 use Rattle.ifl_conf.specs.Keys.{Setting, number, flag, word, Kind, between, truth, one_of, row, keys, is_key, is_table_name}
-use Rattle.ifl_conf.specs.Served.{is_served}
 
 -- the document that the bytes are: UTF-8, and in it a TOML document
 abbrev pub document_of : List ℕ → Option Members
@@ -49,15 +48,10 @@ as_setting truth (boolean b) = Some (flag b)
 as_setting (one_of words) (string s) = if list_any (bytes_eq s) words then Some (word s) else None
 as_setting _ _ = None
 
--- a setting, where the program has its effect
-abbrev pub if_served : KeyName → Option Setting → Option Setting
-if_served k None = None
-if_served k (Some s) = if is_served k s then Some s else None
-
 -- what a key is set to by what is written for it
 abbrev pub or_standard : KeyName → Option Data → Option Setting
 or_standard k None = Some (row k).standard
-or_standard k (Some d) = if_served k (as_setting (row k).kind d)
+or_standard k (Some d) = as_setting (row k).kind d
 
 -- what a document sets a key to: nothing, where the value is of another kind or out of range
 unfoldable pub set_in : Members → KeyName → Option Setting

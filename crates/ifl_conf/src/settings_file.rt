@@ -7,7 +7,6 @@ ghost use Rattle.ifl_conf.specs.declared.keys.KeyName.{KeyName as Keyed};
 ghost use Rattle.ifl_conf.specs.declared.setting_fault.SettingFault.TheVariants.{Memory};
 ghost use Rattle.ifl_conf.specs.Kept.{setting, adapter_setting, frames_setting, pool_setting};
 ghost use Rattle.ifl_conf.specs.Parts.{parts};
-ghost use Rattle.ifl_conf.specs.Served.{is_served};
 
 use crate::choices::{Policy, Start};
 use crate::document::{document_in, names_known};
@@ -27,7 +26,6 @@ use toml::Table;
 pub fn read_settings(alloc: Global, bytes: &[u8]) -> Result<Settings, SettingFault>
     ensures valid { IfOk result (λ _. fault_of bytes.now ≡ None) }
     ensures set { IfOk result (λ s. (k : Keyed) → set_by bytes.now k ≡ Some (setting s k)) }
-    ensures served { IfOk result (λ s. (k : Keyed) → is_served k (setting s k) ≡ true) }
     ensures fault { IfErr result (λ e. e ≢ Memory → fault_of bytes.now ≡ Some e) }
 {
     let table = document_in(alloc, bytes)?;

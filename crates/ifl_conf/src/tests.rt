@@ -47,22 +47,23 @@ version = 7/[ring]/size = 3 => version
 [pool]/clusters = 31 => pool.clusters
 [pool]/clusters = 32 => ok";
 
-/// The same, of settings of which the program does not have the effect yet.
-const NOT_SERVED: &str = "ring.abdicate = true => ring.abdicate
-adapter.kind = \"legacy\" => adapter.kind
-adapter.kind = \"generation\" => adapter.kind
-adapter.hang_after = 1 => adapter.hang_after
-adapter.link_down_after = 1 => adapter.link_down_after
-adapter.start = \"after_senders\"/frames.policy = \"drop\" => adapter.start
-frames.policy = \"drop\"/pool.clusters = 0 => frames.policy
-stop.mode = \"flush\" => stop.mode
-adapter.kind = \"writeback\"/adapter.start = \"at_once\"/adapter.hang_after = 0 => ok";
+/// The same, of each choice that a key has, and of settings that go together.
+const CHOICES: &str = "ring.abdicate = true => ok
+adapter.kind = \"legacy\" => ok
+adapter.kind = \"generation\" => ok
+adapter.kind = \"writeback\"/adapter.start = \"at_once\"/adapter.hang_after = 0 => ok
+adapter.hang_after = 1 => ok
+adapter.link_down_after = 1 => ok
+adapter.start = \"after_senders\"/frames.policy = \"drop\" => ok
+adapter.start = \"after_senders\"/frames.policy = \"retry\" => adapter.start
+frames.policy = \"drop\"/pool.clusters = 0 => pool.clusters
+stop.mode = \"flush\" => ok";
 
 #[test]
 fn the_first_fault_of_a_settings_file_is_told(rt: HostRuntime) -> Result<(), Fail> {
     let alloc = rt.alloc();
     assert_eq!(rt; settings_answer(alloc, &[0xff])?.as_str(), "text");
-    for row in FIRST_FAULTS.lines().chain(NOT_SERVED.lines()) {
+    for row in FIRST_FAULTS.lines().chain(CHOICES.lines()) {
         let (text, answer) = row.split_once(" => ").unwrap_or(("", "no answer"));
         let told = settings_answer(alloc, lines_of(alloc, text)?.as_bytes())?;
         assert_eq!(rt; told.as_str(), answer, "{text}");

@@ -6,7 +6,6 @@ ghost use Rattle.ifl_conf.specs.Documents.{set_in, as_setting, IsSetTo};
 use crate::choices::Choice;
 use crate::document::written;
 use crate::keys::KeyName;
-use crate::served::{is_flag_served, is_number_served, is_word_served};
 use crate::setting_fault::SettingFault;
 use toml::{Table, Value};
 
@@ -30,8 +29,8 @@ pub(crate) fn number_in(
         None => return Ok(standard),
     };
     match number_within(value, least, most) {
-        Some(n) if is_number_served(key, n) => Ok(n),
-        _ => Err(SettingFault::Key(key)),
+        Some(n) => Ok(n),
+        None => Err(SettingFault::Key(key)),
     }
 }
 
@@ -61,8 +60,8 @@ pub(crate) fn flag_in(table: &Table, key: KeyName, standard: bool) -> Result<boo
         None => return Ok(standard),
     };
     match value.as_bool() {
-        Some(flag) if is_flag_served(key, flag) => Ok(flag),
-        _ => Err(SettingFault::Key(key)),
+        Some(flag) => Ok(flag),
+        None => Err(SettingFault::Key(key)),
     }
 }
 
@@ -75,8 +74,8 @@ pub(crate) fn choice_in<C: Choice>(table: &Table) -> Result<C, SettingFault>
     match written(table, C::key()) {
         None => Ok(C::standard()),
         Some(Value::String(text)) => match C::named(text.as_str()) {
-            Some(choice) if is_word_served(C::key(), text.as_str()) => Ok(choice),
-            _ => fault,
+            Some(choice) => Ok(choice),
+            None => fault,
         },
         Some(_) => fault,
     }

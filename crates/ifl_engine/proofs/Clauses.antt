@@ -7,7 +7,7 @@ use Rattle.ifl_engine.specs.declared.report.Report.{Report}
 use Rattle.ifl_engine.specs.declared.report.Finished.{Finished}
 use Rattle.ifl_engine.specs.declared.stop.Stop.{Stop}
 use Rattle.ifl_engine.specs.Words.{Named}
-use Rattle.ifl_engine.specs.Loading.{Chosen, max_frame_of}
+use Rattle.ifl_engine.specs.Loading.{Chosen}
 use Rattle.ifl_engine.specs.Wanted.{Work, sending, tracing}
 use Rattle.ifl_engine.specs.Report.{IsGood}
 use Rattle.ifl_engine.specs.Seen.{Seen}
@@ -23,9 +23,9 @@ sending_refused (Ok (sending names settings captures)) status P h is refusal = e
 sending_refused (Ok (tracing schedule)) status P h is refusal = h
 sending_refused (Err why) status P h is refusal = h
 
-no_report : (w : Result Work Stop) (status : ℕ) (report : Option Report) → IfSome report (λ r. IfSending w (λ settings captures. IsGood (max_frame_of settings) captures r)) → IsStatus w status → IsRefusal status → report ≡ None
+no_report : (w : Result Work Stop) (status : ℕ) (report : Option Report) → IfSome report (λ r. IfSending w (λ settings captures. IsGood settings captures r)) → IsStatus w status → IsRefusal status → report ≡ None
 no_report w status None good is refusal = refl
-no_report w status (Some r) good is refusal = absurd (sending_refused w status (λ settings captures. IsGood (max_frame_of settings) captures r) good is refusal)
+no_report w status (Some r) good is refusal = absurd (sending_refused w status (λ settings captures. IsGood settings captures r) good is refusal)
 
 -- after a refusal there is no report, and no file was written
 pub refused : (names : Named) (w : Result Work Stop) (before after : Seen) (result : Finished) → IsAnswer names w before after result → IsRefusal result.status → (result.report ≡ None) × (after.files ≡ before.files)
@@ -47,7 +47,7 @@ told_files fs source before after steady h which name = elim (h.told which name)
 pub complete : (names : Named) (w : Result Work Stop) (before after : Seen) (result : Finished) → IsAnswer names w before after result → ¬ Rose before.faults after.faults → CallsFor w result.status ⊎ (result.status ≡ 6)
 complete names w before after result h steady = elim h.status [ inl is ↦ inl is | inr other ↦ elim other [ inl six ↦ inr six | inr five ↦ absurd (steady (h.failed five.0)) ] ]
 
-unreported_by : (why : Stop) (report : Option Report) → IfSome report (λ r. IfSending (Err why) (λ settings captures. IsGood (max_frame_of settings) captures r)) → report ≡ None
+unreported_by : (why : Stop) (report : Option Report) → IfSome report (λ r. IfSending (Err why) (λ settings captures. IsGood settings captures r)) → report ≡ None
 unreported_by why None good = refl
 unreported_by why (Some r) good = absurd good
 

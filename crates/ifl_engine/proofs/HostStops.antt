@@ -9,7 +9,7 @@ use Rattle.ifl_engine.specs.declared.stop.Stop.TheVariants as stop
 use Rattle.ifl_engine.specs.Words.{Named}
 use Rattle.ifl_engine.specs.Report.{IsGood}
 use Rattle.ifl_engine.specs.Texts.{counter_text_of}
-use Rattle.ifl_engine.specs.Loading.{Chosen, max_frame_of}
+use Rattle.ifl_engine.specs.Loading.{Chosen}
 use Rattle.ifl_engine.specs.Wanted.{Work, sending}
 use Rattle.ifl_engine.specs.Status.{status_of}
 use Rattle.ifl_engine.specs.Seen.{Seen}
@@ -33,7 +33,7 @@ host_stop stop.Memory a b h = inr refl
 host_stop why a b h = absurd h
 
 -- the answer after a stop of writing
-pub write_stopped : (names : Named) (settings : Chosen) (captures : List (List Frame)) (r : Report) (why : Stop) (before mid after : Seen) (status : ℕ) → IsGood (max_frame_of settings) captures r → IsHostStop why before.faults mid.faults → before.faults ≤ mid.faults
+pub write_stopped : (names : Named) (settings : Chosen) (captures : List (List Frame)) (r : Report) (why : Stop) (before mid after : Seen) (status : ℕ) → IsGood settings captures r → IsHostStop why before.faults mid.faults → before.faults ≤ mid.faults
     → BothTold before.files mid.files (IsLeft names r why) → BothTold before.files mid.files (IsStanding names r) → BothTold before.printed mid.printed (Begins why (λ text. text ≡ counter_text_of r.plain))
     → IsTold names why mid after status → IsAnswer names (Ok (sending names settings captures)) before after (record { status = status; report = Some r })
 write_stopped names settings captures r why before mid after status good fault later left standing begun told =

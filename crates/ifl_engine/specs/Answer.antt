@@ -8,7 +8,7 @@ use Rattle.ifl_engine.specs.declared.report.Finished.{Finished}
 use Rattle.ifl_engine.specs.declared.stop.Stop.{Stop}
 use Rattle.ifl_engine.specs.declared.stop.WordsWhy.{WordsWhy}
 use Rattle.ifl_engine.specs.Words.{Named, Asked}
-use Rattle.ifl_engine.specs.Loading.{Chosen, max_frame_of}
+use Rattle.ifl_engine.specs.Loading.{Chosen}
 use Rattle.ifl_engine.specs.Report.{IsGood}
 use Rattle.ifl_engine.specs.Left.{IsWritten, IsStanding}
 use Rattle.ifl_engine.specs.Seen.{Seen}
@@ -77,7 +77,7 @@ pub record IsAnswer (names : Named) (work : Result Work Stop) (before after : Se
   pub later : before.faults ≤ after.faults
   pub failed : result.status ≡ 5 → Rose before.faults after.faults
   -- a report is good, wherever there is one, and at status 0 there is one where frames were to be sent
-  pub good : IfSome result.report (λ r. IfSending work (λ settings captures. IsGood (max_frame_of settings) captures r))
+  pub good : IfSome result.report (λ r. IfSending work (λ settings captures. IsGood settings captures r))
   pub there : result.status ≡ 0 → IsReported work result.report
   -- what stands in the files and what was printed
   pub done : result.status ≡ 0 → IfSome result.report (λ r. IsDone names r before after)

@@ -1,7 +1,6 @@
 pub mod Words
 pub mod Read
-pub mod Records
-pub mod Lawful
+pub mod Counts
 pub mod Report
 pub mod Texts
 pub mod Tracing
@@ -14,6 +13,5 @@ pub mod Seen
 pub mod Left
 pub mod CutShort
 pub mod Answer
-pub mod PlainList
 pub mod Steps
 pub mod Loaded

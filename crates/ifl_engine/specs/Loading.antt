@@ -7,9 +7,8 @@ use Rattle.ifl_pcap.specs.Reading.{capture_of}
 use Rattle.ifl_conf.specs.declared.setting_fault.SettingFault.{SettingFault}
 use Rattle.ifl_conf.specs.declared.setting_fault.SettingFault.TheVariants as fault
 use Rattle.ifl_conf.specs.declared.keys.KeyName.{KeyName}
-use Rattle.ifl_conf.specs.declared.keys.KeyName.TheVariants.{FramesMaxFrame}
 use Rattle.ifl_conf.specs.Keys.{Setting, row}
-use Rattle.ifl_conf.specs.Documents.{fault_of, set_by, number_of}
+use Rattle.ifl_conf.specs.Documents.{fault_of, set_by}
 use Rattle.ifl_engine.specs.declared.stop.SettingsWhy.TheVariants as bad_setting
 use Rattle.ifl_engine.specs.declared.stop.Stop.{Stop}
 use Rattle.ifl_engine.specs.declared.stop.Stop.TheVariants as stop
@@ -93,10 +92,6 @@ settings_by (Some e) set = Err (stop_by_settings e)
 unfoldable pub settings_in : Option (List ℕ) → Result Chosen Stop
 settings_in None = Ok (λ k. Some (row k).standard)
 settings_in (Some bytes) = settings_by (fault_of bytes) (set_by bytes)
-
--- the most bytes of a frame that may be sent
-abbrev pub max_frame_of : Chosen → ℕ
-max_frame_of set = number_of (set FramesMaxFrame)
 
 -- the capture of the bytes of the FILE of this number
 abbrev pub capture_in : ℕ → List ℕ → Result (List Frame) Stop

@@ -1,64 +1,95 @@
--- A good report: its order record is lawful, its wire capture is that of the order record, and its counts are those of the lines.
-use Rattle.std.specs.Prelude.{◌≡◌, ℕ, Bool, true, false, List, [], ◌∷◌, length, None, count_by, sum_by, if◌then◌else◌}
-use Rattle.std.specs.List.{filter_map}
-use Rattle.ifl_base.specs.declared.fate.Fate.{Fate}
-use Rattle.ifl_base.specs.declared.fate.Fate.TheVariants as fate
-use Rattle.ifl_base.specs.declared.fate.Away.{Away}
-use Rattle.ifl_base.specs.declared.fate.Away.TheVariants as away
+-- A good report: what it says of the settings and of the captures of its run.
+use Rattle.std.specs.Prelude.{◌≡◌, ℕ, Bool, true, false, List, Some}
+use Rattle.ifl_conf.specs.declared.choices.AdapterKind.TheVariants as kind
+use Rattle.ifl_conf.specs.declared.choices.Policy.TheVariants as policy
+use Rattle.ifl_conf.specs.declared.choices.Start.TheVariants as start
+use Rattle.ifl_conf.specs.declared.keys.KeyName.TheVariants.{RingSize, RingBudget, RingAbdicate, AdapterKind, AdapterDescriptors, AdapterMaxSegs, AdapterDoorbellEvery, AdapterTurnFrames, AdapterStart, FramesMaxFrame, FramesPolicy, PoolClusters, PoolSegBytes}
+use Rattle.ifl_conf.specs.Choices.{kind_text, policy_text, start_text}
+use Rattle.ifl_conf.specs.Keys.{flag, number, word}
+use Rattle.ifl_desc.specs.Closed.{ClosedSees}
 use Rattle.ifl_pcap.specs.declared.frame.Frame.{Frame}
-use Rattle.ifl_pcap.specs.File.{written}
-use Rattle.ifl_engine.specs.declared.report.OrderLine.{OrderLine}
-use Rattle.ifl_engine.specs.declared.report.AwayLine.{AwayLine}
+use Rattle.ifl_pool.specs.Pools.{ClosedState as ClosedPool}
+use Rattle.ifl_ring.specs.Closed.{ClosedState as ClosedRing}
+use Rattle.ifl_ringcore.specs.declared.counters.Counters.{Counters}
+use Rattle.ifl_txq.specs.declared.item.Item.{Item}
+use Rattle.ifl_txq.specs.declared.line.OrderLine.{OrderLine}
+use Rattle.ifl_line.specs.declared.away_line.AwayLine.{AwayLine}
+use Rattle.ifl_line.specs.declared.rules.Policy.{Policy}
+use Rattle.ifl_line.specs.declared.rules.Policy.TheVariants.{Retry, Drop}
+use Rattle.ifl_line.specs.declared.rules.Rules.{Rules}
+use Rattle.ifl_line.specs.declared.sizes.Sizes.{Sizes}
+use Rattle.ifl_line.specs.Good.{IsAdapterOf, IsLawful, IsPoolOf, IsRingOf}
+use Rattle.ifl_line.specs.Steps.{packets}
+use Rattle.ifl_engine.specs.declared.report.ClosedLine.{ClosedLine}
+use Rattle.ifl_engine.specs.declared.report.ClosedLine.TheVariants as closed
 use Rattle.ifl_engine.specs.declared.report.Plain.{Plain}
 use Rattle.ifl_engine.specs.declared.report.Report.{Report}
-use Rattle.ifl_engine.specs.Records.{all_tickets, frame_of}
-use Rattle.ifl_engine.specs.Lawful.{IsLawful}
+use Rattle.ifl_engine.specs.Counts.{counts_of}
+use Rattle.ifl_engine.specs.Loading.{Chosen}
 
-abbrev pub on_wire : Fate → Bool
-on_wire fate.Wire = true
-on_wire fate.TooManySegments = false
-on_wire fate.Reset = false
-on_wire fate.Flush = false
+-- ---- what the settings choose
 
--- each of these lines says that its frame is on the wire
-abbrev pub AreOnWire : List OrderLine → Type 0
-AreOnWire [] = Unit {0}
-AreOnWire (l ∷ ls) = (l.fate ≡ fate.Wire) × AreOnWire ls
+-- how large the parts of the run are
+pub record AreSizesBy (set : Chosen) (z : Sizes) : Type 0 where
+  pub ring : set RingSize ≡ Some (number z.ring)
+  pub clusters : set PoolClusters ≡ Some (number z.clusters)
+  pub descriptors : set AdapterDescriptors ≡ Some (number z.descriptors)
+  pub max_segs : set AdapterMaxSegs ≡ Some (number z.max_segs)
+  pub doorbell_every : set AdapterDoorbellEvery ≡ Some (number z.doorbell_every)
 
--- the frames of the lines with fate wire, in the order of their lines
-abbrev pub emitted : List (List Frame) → List OrderLine → List Frame
-emitted captures order = filter_map (λ l. if on_wire l.fate then frame_of captures l.ticket else None) order
+abbrev pub policy_chosen : Policy → List ℕ
+policy_chosen Retry = policy_text policy.Retry
+policy_chosen Drop = policy_text policy.Drop
 
-abbrev pub is_runt : Away → Bool
-is_runt away.Runt = true
-is_runt away.Oversize = false
-is_runt away.NoClusters = false
-is_runt (away.NoBuffers w) = false
+abbrev pub start_chosen : Bool → List ℕ
+start_chosen true = start_text start.AfterSenders
+start_chosen false = start_text start.AtOnce
 
-abbrev pub is_oversize : Away → Bool
-is_oversize away.Runt = false
-is_oversize away.Oversize = true
-is_oversize away.NoClusters = false
-is_oversize (away.NoBuffers w) = false
+-- how frames are sent
+pub record AreRulesBy (set : Chosen) (r : Rules) : Type 0 where
+  pub max_frame : set FramesMaxFrame ≡ Some (number r.max_frame)
+  pub seg_bytes : set PoolSegBytes ≡ Some (number r.seg_bytes)
+  pub budget : set RingBudget ≡ Some (number r.budget)
+  pub abdicate : set RingAbdicate ≡ Some (flag r.abdicate)
+  pub policy : set FramesPolicy ≡ Some (word (policy_chosen r.policy))
+  pub turn_frames : set AdapterTurnFrames ≡ Some (number r.turn_frames)
+  pub start : set AdapterStart ≡ Some (word (start_chosen r.after_senders))
 
--- the counts of the lines of each kind
-abbrev pub counts_of : List (List Frame) → List OrderLine → List AwayLine → Plain
-counts_of captures order turned = record {
-  frames = length (all_tickets captures);
-  wire = count_by (λ l. on_wire l.fate) order;
-  wire_bytes = sum_by (λ f. length f.bytes) (emitted captures order);
-  runt = count_by (λ l. is_runt l.away) turned;
-  oversize = count_by (λ l. is_oversize l.away) turned;
-  no_buffers = 0;
-  no_clusters = 0;
-  too_many_segments = 0;
-  reset = 0;
-  flush = 0;
-}
+-- ---- what the report says
 
--- the report is good for the captures, where no frame may be longer than max_frame
-pub record IsGood (max_frame : ℕ) (captures : List (List Frame)) (r : Report) : Type 0 where
-  pub lawful : IsLawful max_frame captures r.order r.away
-  pub sent : AreOnWire r.order
-  pub wire : r.wire ≡ written (emitted captures r.order)
-  pub plain : r.plain ≡ counts_of captures r.order r.away
+abbrev pub ring_of : ClosedLine → ClosedRing Item
+ring_of (closed.Legacy ring desc) = ring
+ring_of (closed.Writeback ring desc) = ring
+ring_of (closed.Generation ring desc) = ring
+
+abbrev pub desc_of : ClosedLine → ClosedSees
+desc_of (closed.Legacy ring desc) = desc.remains
+desc_of (closed.Writeback ring desc) = desc.remains
+desc_of (closed.Generation ring desc) = desc.remains
+
+abbrev pub kind_of : ClosedLine → List ℕ
+kind_of (closed.Legacy ring desc) = kind_text kind.Legacy
+kind_of (closed.Writeback ring desc) = kind_text kind.Writeback
+kind_of (closed.Generation ring desc) = kind_text kind.Generation
+
+-- what a run by these settings leaves is true of its captures, and its counters count its lines
+pub record IsGoodRun (set : Chosen) (captures : List (List Frame)) (order : List OrderLine) (turned : List AwayLine) (wire : List ℕ) (plain : Plain) (counters : Counters) (ring : ClosedRing Item) (desc : ClosedSees) (pool : ClosedPool) : Type 0 where
+  pub sizes : Sizes
+  pub rules : Rules
+  pub sizes_are : AreSizesBy set sizes
+  pub rules_are : AreRulesBy set rules
+  -- the order record and the away lines account for all records
+  pub lawful : IsLawful sizes.ring rules captures order turned ring.history
+  -- the ring is closed at rest and empty, after a legal history
+  pub ring_is : IsRingOf sizes rules ring counters
+  -- the descriptor ring is closed and empty, its frames have the fates of the order record, and the wire is that of the order record
+  pub adapter : IsAdapterOf sizes captures order (packets ring.history) desc wire
+  -- the pool has all its clusters
+  pub pool_is : IsPoolOf sizes rules captures turned ring.history pool
+  pub counted : plain ≡ counts_of captures order turned
+
+-- the report is good for the settings and the captures
+pub record IsGood (set : Chosen) (captures : List (List Frame)) (r : Report) : Type 0 where
+  pub run : IsGoodRun set captures r.order r.away r.wire r.plain r.ring (ring_of r.closed) (desc_of r.closed) r.pool
+  -- the adapter is of the kind that the settings name
+  pub kind_is : set AdapterKind ≡ Some (word (kind_of r.closed))

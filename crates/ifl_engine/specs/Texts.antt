@@ -7,8 +7,8 @@ use Rattle.ifl_base.specs.declared.fate.Away.{Away}
 use Rattle.ifl_base.specs.declared.fate.Away.TheVariants as away
 use Rattle.ifl_base.specs.declared.word.RingWord.{RingWord}
 use Rattle.ifl_base.specs.Word.{name_of}
-use Rattle.ifl_engine.specs.declared.report.OrderLine.{OrderLine}
-use Rattle.ifl_engine.specs.declared.report.AwayLine.{AwayLine}
+use Rattle.ifl_txq.specs.declared.line.OrderLine.{OrderLine}
+use Rattle.ifl_line.specs.declared.away_line.AwayLine.{AwayLine}
 use Rattle.ifl_engine.specs.declared.report.Plain.{Plain}
 
 abbrev pub fate_name : Fate → List ℕ

@@ -1,18 +1,12 @@
-use ifl_base::{Away, Fate, Items, Ticket};
-
-/// An accepted frame, and what became of it.
-#[derive(Clone, Copy, Debug)]
-pub struct OrderLine {
-    pub ticket: Ticket,
-    pub fate: Fate,
-}
-
-/// A frame that was turned away, and why.
-#[derive(Clone, Copy, Debug)]
-pub struct AwayLine {
-    pub ticket: Ticket,
-    pub away: Away,
-}
+use ifl_base::Items;
+use ifl_generation::{GenerationClosed, GenerationRing};
+use ifl_legacy::{LegacyClosed, LegacyRing};
+use ifl_line::AwayLine;
+use ifl_pool::ClosedPool;
+use ifl_ring::ClosedRing;
+use ifl_ringcore::Counters;
+use ifl_txq::{Item, OrderLine, QueueOrigin};
+use ifl_writeback::{WritebackClosed, WritebackRing};
 
 /// How many frames there were, and how many lines of each kind.
 #[derive(Clone, Copy, Debug)]
@@ -32,20 +26,37 @@ pub struct Plain {
     pub flush: u64,
 }
 
+/// The ring of a run and the descriptor ring of its adapter, closed.
+#[derive(Drop)]
+pub enum ClosedLine {
+    /// Over a legacy adapter.
+    Legacy(ClosedRing<Item, QueueOrigin<LegacyRing>>, LegacyClosed),
+    /// Over a writeback adapter.
+    Writeback(ClosedRing<Item, QueueOrigin<WritebackRing>>, WritebackClosed),
+    /// Over a generation adapter.
+    Generation(ClosedRing<Item, QueueOrigin<GenerationRing>>, GenerationClosed),
+}
+
 /// What became of every frame of a run.
-#[derive(Debug, Drop)]
+#[derive(Drop)]
 pub struct Report {
-    /// The accepted frames, in the order of acceptance.
+    /// The accepted frames, in the order in which the ring took them, each with its fate.
     pub order: Items<OrderLine>,
     /// The other frames, in the order of sender and index.
     pub away: Items<AwayLine>,
     /// The wire capture, as the file holds it.
     pub wire: Items<u8>,
     pub plain: Plain,
+    /// What the ring counted.
+    pub ring: Counters,
+    /// The ring and the descriptor ring.
+    pub closed: ClosedLine,
+    /// The pool, with all its clusters.
+    pub pool: ClosedPool,
 }
 
 /// How a run ended.
-#[derive(Debug, Drop)]
+#[derive(Drop)]
 pub struct Finished {
     /// The exit status of the program.
     pub status: u8,

@@ -3,8 +3,10 @@ ghost use Rattle.std.specs.List.{flat_map};
 ghost use Rattle.std.specs.String.{string_bytes};
 ghost use Rattle.ifl_engine.specs.Texts.{text_line, open_line, field, word_text, count_line, order_line, away_line, order_text_of, counter_text_of};
 
-use crate::report::{AwayLine, OrderLine, Report};
+use crate::report::Report;
 use ifl_base::{Away, Fate, NoMemory, RingWord, Ticket};
+use ifl_line::AwayLine;
+use ifl_txq::OrderLine;
 use std::alloc::Global;
 use std::fmt::Write;
 

@@ -12,8 +12,8 @@ ghost use Rattle.ifl_engine.specs.Loaded.{chosen, each_frames};
 ghost use Rattle.ifl_engine.specs.Steps.{AreSmall, IsTold};
 
 use crate::gathering::{Load, gathered};
-use crate::plain::report_of;
 use crate::report::Finished;
+use crate::sending::report_of;
 use crate::stop::{Stop, WordsWhy};
 use crate::telling::{tell, tell_named};
 use crate::tracing::trace;
@@ -27,14 +27,21 @@ use std::sync::Wait;
 use std::thread::Threads;
 
 /// The run over the captures that were read.
-fn work<H: Host>(alloc: Global, names: &SendWords, load: Load, host: &mut H) -> Finished
+fn work<R: Threads + Wait + Sync, H: Host, G: Gate>(
+    rt: &R,
+    alloc: Global,
+    names: &SendWords,
+    load: Load,
+    host: &mut H,
+    gate: &G,
+) -> Finished
     requires small { AreSmall (each_frames load.captures) }
     requires apart { string_bytes names.now.wire ≢ string_bytes names.now.order }
     ensures by_words { result.status ≢ 1 }
     ensures answer { IsAnswer (names_of names.now) (Ok (sending (names_of names.now) (chosen load.settings) (each_frames load.captures)))
         (seen H.faults H.files H.printed host.old) (seen H.faults H.files H.printed host.new) result }
 {
-    match report_of(alloc, load.settings.frames.max_frame, load.captures) {
+    match report_of(rt, alloc, &load.settings, load.captures, gate) {
         Err(NoMemory) => {
             let status = tell_named(alloc, names, Stop::Memory, host);
             Finished {
@@ -59,7 +66,13 @@ fn work<H: Host>(alloc: Global, names: &SendWords, load: Load, host: &mut H) -> 
 }
 
 /// The command `send`: reads, runs and writes.
-fn send<H: Host>(alloc: Global, names: &SendWords, host: &mut H) -> Finished
+fn send<R: Threads + Wait + Sync, H: Host, G: Gate>(
+    rt: &R,
+    alloc: Global,
+    names: &SendWords,
+    host: &mut H,
+    gate: &G,
+) -> Finished
     requires some { 0 < length names.now.files.items }
     requires apart { string_bytes names.now.wire ≢ string_bytes names.now.order }
     ensures by_words { result.status ≢ 1 }
@@ -68,7 +81,7 @@ fn send<H: Host>(alloc: Global, names: &SendWords, host: &mut H) -> Finished
         (seen H.faults H.files H.printed host.old) (seen H.faults H.files H.printed host.new) result) }
 {
     match gathered(alloc, names, host) {
-        Ok(load) => work(alloc, names, load, host),
+        Ok(load) => work(rt, alloc, names, load, host, gate),
         Err(stop) => {
             let status = tell_named(alloc, names, stop, host);
             Finished {
@@ -93,14 +106,20 @@ fn refuse<H: Host>(alloc: Global, stop: Stop, host: &mut H) -> Finished
 }
 
 /// The command that the words ask for.
-fn answer<H: Host>(alloc: Global, words: &[String], host: &mut H) -> Finished
+fn answer<R: Threads + Wait + Sync, H: Host, G: Gate>(
+    rt: &R,
+    alloc: Global,
+    words: &[String],
+    host: &mut H,
+    gate: &G,
+) -> Finished
     ensures words { IsByWords (asked_by_words (map string_bytes words.now)) result.status }
     ensures answer { ForAccount (H.files host.old) (Rose (H.faults host.old) (H.faults host.new)) (λ source.
         IsAnswer (names_in (map string_bytes words.now)) (wanted (map string_bytes words.now) source)
         (seen H.faults H.files H.printed host.old) (seen H.faults H.files H.printed host.new) result) }
 {
     match asked(alloc, words) {
-        Ok(Command::Send(names)) => send(alloc, &names, host),
+        Ok(Command::Send(names)) => send(rt, alloc, &names, host, gate),
         Ok(Command::Trace { file }) => {
             let status = trace(alloc, file.as_str(), host);
             Finished {
@@ -118,12 +137,12 @@ fn answer<H: Host>(alloc: Global, words: &[String], host: &mut H) -> Finished
 ///
 /// `words` are the words behind the program's name. The host is read, written and printed to; the gate is
 /// where a test may hold a thread. What is printed is the counters at status 0, and else one fault line.
-pub fn run<R: Threads + Wait, H: Host, G: Gate>(
-    _rt: &R,
+pub fn run<R: Threads + Wait + Sync, H: Host, G: Gate>(
+    rt: &R,
     alloc: Global,
     words: &[String],
     host: &mut H,
-    _gate: &G,
+    gate: &G,
 ) -> Finished
     // Status 1 comes exactly where the words are refused.
     ensures words { IsByWords (asked_by_words (map string_bytes words.now)) result.status }
@@ -140,5 +159,5 @@ pub fn run<R: Threads + Wait, H: Host, G: Gate>(
     // After a refusal there is no report, and no file was written, whatever the host tells.
     ensures refused { IsRefusal result.status → (result.report ≡ None) × (H.files host.new ≡ H.files host.old) }
 {
-    answer(alloc, words, host)
+    answer(rt, alloc, words, host, gate)
 }
