@@ -1,5 +1,5 @@
 -- The counters of a run: how many lines of each kind there are.
-use Rattle.std.specs.Prelude.{ℕ, Bool, true, false, List, length, count_by, sum_by}
+use Rattle.std.specs.Prelude.{Bool, true, false, List, length, count_by, sum_by}
 use Rattle.ifl_base.specs.declared.fate.Fate.{Fate}
 use Rattle.ifl_base.specs.declared.fate.Fate.TheVariants as fate
 use Rattle.ifl_base.specs.declared.fate.Away.{Away}

@@ -58,19 +58,19 @@ pub record AreRulesBy (set : Chosen) (r : Rules) : Type 0 where
 -- ---- what the report says
 
 abbrev pub ring_of : ClosedLine → ClosedRing Item
-ring_of (closed.Legacy ring desc) = ring
-ring_of (closed.Writeback ring desc) = ring
-ring_of (closed.Generation ring desc) = ring
+ring_of (closed.Legacy ring desc ends) = ring
+ring_of (closed.Writeback ring desc ends) = ring
+ring_of (closed.Generation ring desc ends) = ring
 
 abbrev pub desc_of : ClosedLine → ClosedSees
-desc_of (closed.Legacy ring desc) = desc.remains
-desc_of (closed.Writeback ring desc) = desc.remains
-desc_of (closed.Generation ring desc) = desc.remains
+desc_of (closed.Legacy ring desc ends) = desc.remains
+desc_of (closed.Writeback ring desc ends) = desc.remains
+desc_of (closed.Generation ring desc ends) = desc.remains
 
 abbrev pub kind_of : ClosedLine → List ℕ
-kind_of (closed.Legacy ring desc) = kind_text kind.Legacy
-kind_of (closed.Writeback ring desc) = kind_text kind.Writeback
-kind_of (closed.Generation ring desc) = kind_text kind.Generation
+kind_of (closed.Legacy ring desc ends) = kind_text kind.Legacy
+kind_of (closed.Writeback ring desc ends) = kind_text kind.Writeback
+kind_of (closed.Generation ring desc ends) = kind_text kind.Generation
 
 -- what a run by these settings leaves is true of its captures, and its counters count its lines
 pub record IsGoodRun (set : Chosen) (captures : List (List Frame)) (order : List OrderLine) (turned : List AwayLine) (wire : List ℕ) (plain : Plain) (counters : Counters) (ring : ClosedRing Item) (desc : ClosedSees) (pool : ClosedPool) : Type 0 where

@@ -1,12 +1,13 @@
 use ifl_base::Items;
-use ifl_generation::{GenerationClosed, GenerationRing};
-use ifl_legacy::{LegacyClosed, LegacyRing};
+use ifl_generation::{GenerationClosed, GenerationDevice, GenerationDriver, GenerationRing};
+use ifl_legacy::{LegacyClosed, LegacyDevice, LegacyDriver, LegacyRing};
 use ifl_line::AwayLine;
 use ifl_pool::ClosedPool;
 use ifl_ring::ClosedRing;
 use ifl_ringcore::Counters;
 use ifl_txq::{Item, OrderLine, QueueOrigin};
-use ifl_writeback::{WritebackClosed, WritebackRing};
+use ifl_writeback::{WritebackClosed, WritebackDevice, WritebackDriver, WritebackRing};
+use std::marker::PhantomData;
 
 /// How many frames there were, and how many lines of each kind.
 #[derive(Clone, Copy, Debug)]
@@ -30,11 +31,23 @@ pub struct Plain {
 #[derive(Drop)]
 pub enum ClosedLine {
     /// Over a legacy adapter.
-    Legacy(ClosedRing<Item, QueueOrigin<LegacyRing>>, LegacyClosed),
+    Legacy(
+        ClosedRing<Item, QueueOrigin<LegacyRing>>,
+        LegacyClosed,
+        PhantomData<(LegacyDriver, LegacyDevice)>,
+    ),
     /// Over a writeback adapter.
-    Writeback(ClosedRing<Item, QueueOrigin<WritebackRing>>, WritebackClosed),
+    Writeback(
+        ClosedRing<Item, QueueOrigin<WritebackRing>>,
+        WritebackClosed,
+        PhantomData<(WritebackDriver, WritebackDevice)>,
+    ),
     /// Over a generation adapter.
-    Generation(ClosedRing<Item, QueueOrigin<GenerationRing>>, GenerationClosed),
+    Generation(
+        ClosedRing<Item, QueueOrigin<GenerationRing>>,
+        GenerationClosed,
+        PhantomData<(GenerationDriver, GenerationDevice)>,
+    ),
 }
 
 /// What became of every frame of a run.

@@ -24,6 +24,7 @@ use ifl_ringcore::Counters;
 use ifl_txq::OrderLine;
 use ifl_writeback::WritebackRing;
 use std::alloc::Global;
+use std::marker::PhantomData;
 use std::sync::Wait;
 use std::thread::Threads;
 
@@ -156,7 +157,7 @@ pub fn report_of<T: Threads + Wait + Sync, G: Gate>(
     match settings.adapter.kind {
         AdapterKind::Legacy => {
             let (sent, plain) = sent_over::<LegacyRing, T, G>(rt, alloc, settings, captures, gate)?;
-            let closed = ClosedLine::Legacy(sent.ring, sent.desc);
+            let closed = ClosedLine::Legacy(sent.ring, sent.desc, PhantomData);
             Ok(report(
                 sent.order,
                 sent.away,
@@ -171,7 +172,7 @@ pub fn report_of<T: Threads + Wait + Sync, G: Gate>(
             let (sent, plain) = sent_over::<WritebackRing, T, G>(
                 rt, alloc, settings, captures, gate,
             )?;
-            let closed = ClosedLine::Writeback(sent.ring, sent.desc);
+            let closed = ClosedLine::Writeback(sent.ring, sent.desc, PhantomData);
             Ok(report(
                 sent.order,
                 sent.away,
@@ -186,7 +187,7 @@ pub fn report_of<T: Threads + Wait + Sync, G: Gate>(
             let (sent, plain) = sent_over::<GenerationRing, T, G>(
                 rt, alloc, settings, captures, gate,
             )?;
-            let closed = ClosedLine::Generation(sent.ring, sent.desc);
+            let closed = ClosedLine::Generation(sent.ring, sent.desc, PhantomData);
             Ok(report(
                 sent.order,
                 sent.away,

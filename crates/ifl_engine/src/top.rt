@@ -41,7 +41,8 @@ fn work<R: Threads + Wait + Sync, H: Host, G: Gate>(
     ensures answer { IsAnswer (names_of names.now) (Ok (sending (names_of names.now) (chosen load.settings) (each_frames load.captures)))
         (seen H.faults H.files H.printed host.old) (seen H.faults H.files H.printed host.new) result }
 {
-    match report_of(rt, alloc, &load.settings, load.captures, gate) {
+    let Load { settings, captures } = load;
+    match report_of(rt, alloc, &settings, captures, gate) {
         Err(NoMemory) => {
             let status = tell_named(alloc, names, Stop::Memory, host);
             Finished {
