@@ -43,7 +43,7 @@ fn refuse<H: Host>(alloc: Global, host: &mut H, kind: ErrorKind) -> u8
 }
 
 /// What ends a program whose words could be read: the status of the run that they ask for.
-fn exit_status<R: Threads + Wait, H: Host>(
+fn exit_status<R: Threads + Wait + Sync, H: Host>(
     rt: &R,
     alloc: Global,
     words: &[String],
