@@ -1,13 +1,13 @@
 -- What a command has whose options and FILE words are served.
 use Rattle.std.proofs.Common.{◌≡◌, ℕ, ◌<◌, Bool, true, false, not, List, length, map, Option, None, Some, option_map, is_some, String, Global, string_bytes, refl, sym, ap, ◌∙◌, arith}
 use Rattle.std.specs.Prelude.{nat_lt}
-use Rattle.std.proofs.lemmas.Bool.{and_parts, false≢true, ltb-true}
+use Rattle.std.proofs.lemmas.Bool.{false≢true, ltb-true}
 use Rattle.std.proofs.lemmas.List.{length-map}
 use Rattle.ifl_conf.specs.declared.command.Command.{Command}
 use Rattle.ifl_conf.specs.declared.command.Command.TheVariants as command
 use Rattle.ifl_conf.specs.declared.words.CommandName.{CommandName}
 use Rattle.ifl_conf.specs.declared.words.CommandName.TheVariants.{Send}
-use Rattle.ifl_conf.specs.declared.words.OptionName.TheVariants.{Input, Host, Ring}
+use Rattle.ifl_conf.specs.declared.words.OptionName.TheVariants.{Input, Host}
 use Rattle.ifl_conf.specs.Options.{takes_files}
 use Rattle.ifl_conf.specs.Front.{Given}
 use Rattle.ifl_conf.specs.Grammar.{is_of_grammar, is_given, has_both_or_neither}
@@ -30,23 +30,18 @@ host_with_input : (gs : List Given) → has_both_or_neither gs ≡ true → is_g
 host_with_input gs h i = false_where_not (is_given Host gs) (rw i at h)
 
 -- what is served of send
-send_parts_served : (gs : List Given) → is_form_served Send gs ≡ true → (is_given Input gs ≡ false) × (is_given Ring gs ≡ false)
+send_parts_served : (gs : List Given) → is_form_served Send gs ≡ true → is_given Input gs ≡ false
 unfolding is_form_served
-send_parts_served gs h =
-    let (input, ring) = and_parts (not (is_given Input gs)) (not (is_given Ring gs)) h in
-    (false_where_not (is_given Input gs) input, false_where_not (is_given Ring gs) ring)
+send_parts_served gs h = false_where_not (is_given Input gs) h
 
 -- a command shows that it is served
 pub served_shown : (asked : Command) (c : CommandName) (gs : List Given) (fs : List (List ℕ))
     → is_of_grammar c gs fs ≡ true → is_form_served c gs ≡ true → Shows asked c gs fs → IsServed asked
 unfolding is_form_served
 served_shown (command.Send s) c gs fs g h shown =
-    let (no_input, no_ring) = send_parts_served gs (rw shown.0 at h) in
-    let no_host = host_with_input gs (both_or_neither c gs fs g) no_input in (
-      none_where_not_given s.input _ shown.1.input no_input,
-      none_where_not_given s.host _ shown.1.host no_host,
-      shown.1.ring ∙ no_ring,
-    )
+    let no_input = send_parts_served gs (rw shown.0 at h) in
+    let no_host = host_with_input gs (both_or_neither c gs fs g) no_input in
+    (none_where_not_given s.input _ shown.1.input no_input, none_where_not_given s.host _ shown.1.host no_host)
 served_shown (command.Gen g) c gs fs m h shown = absurd (false≢true (rw shown.0 at h))
 served_shown (command.Trace file) c gs fs g h shown = tt
 served_shown (command.Check k) c gs fs g h shown = absurd (false≢true (rw shown.0 at h))

@@ -1,5 +1,5 @@
 -- What a command shows of the words, and what is answered to them.
-use Rattle.std.specs.Prelude.{◌≡◌, ◌<◌, ℕ, false, List, [], ◌∷◌, length, map, None, Some, option_map, string_bytes, Result, Ok, Err, IfSome}
+use Rattle.std.specs.Prelude.{◌≡◌, ◌<◌, ℕ, List, [], ◌∷◌, length, map, None, Some, option_map, string_bytes, Result, Ok, Err, IfSome}
 use Rattle.std.specs.Str.Parse.{digits_value}
 use Rattle.ifl_conf.specs.declared.word_fault.WordFault.{WordFault}
 use Rattle.ifl_conf.specs.declared.word_fault.WordFault.TheVariants.{NoCommand, UnknownCommand, Refused, Names, Memory}
@@ -67,7 +67,7 @@ HasFiles (command.Check k) = 0 < length k.files.items
 
 -- the program does what the command asks for
 abbrev pub IsServed : Command → Type 0
-IsServed (command.Send s) = (s.input ≡ None) × (s.host ≡ None) × (s.ring ≡ false)
+IsServed (command.Send s) = (s.input ≡ None) × (s.host ≡ None)
 IsServed (command.Gen g) = ⊥
 IsServed (command.Trace file) = Unit {0}
 IsServed (command.Check c) = ⊥

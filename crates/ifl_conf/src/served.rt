@@ -14,9 +14,7 @@ pub(crate) fn is_form_served(command: CommandName, options: &[GivenOption]) -> b
     ensures { result ≡ is_form_served command (map given options.now) }
 {
     match command {
-        CommandName::Send => {
-            !is_given(options, OptionName::Input) && !is_given(options, OptionName::Ring)
-        }
+        CommandName::Send => !is_given(options, OptionName::Input),
         CommandName::Trace => true,
         CommandName::Gen | CommandName::Check => false,
     }

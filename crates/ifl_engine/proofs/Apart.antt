@@ -25,13 +25,13 @@ use Rattle.ifl_engine.specs.Read.{names_of, GivesWords, IsApart}
 
 -- ---- what was read is what is asked for
 
-abbrev files_named : Option (List ℕ) → List ℕ → List ℕ → List (List ℕ) → Named
-files_named settings wire order files = record { settings = settings; wire = wire; order = order; files = files }
+abbrev files_named : Option (List ℕ) → List ℕ → List ℕ → List (List ℕ) → Bool → Named
+files_named settings wire order files ring = record { settings = settings; wire = wire; order = order; files = files; ring = ring }
 
 named_is : (s : SendWords) (gs : List Given) (fs : List (List ℕ)) → ShowsSend s gs fs → named gs fs ≡ names_of s
 unfolding option_named
 named_is s gs fs h =
-    let same : named gs fs ≡ files_named (option_map string_bytes s.settings) (string_bytes s.wire) (string_bytes s.order) (map string_bytes s.files.items) = rw (h.settings, h.wire, h.order, h.files) refl in
+    let same : named gs fs ≡ files_named (option_map string_bytes s.settings) (string_bytes s.wire) (string_bytes s.order) (map string_bytes s.files.items) s.ring = rw (h.settings, h.wire, h.order, h.files, h.ring) refl in
     same
 
 abbrev ask_send : Named → Result Asked WordsWhy

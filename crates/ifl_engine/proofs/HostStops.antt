@@ -34,7 +34,7 @@ host_stop why a b h = absurd h
 
 -- the answer after a stop of writing
 pub write_stopped : (names : Named) (settings : Chosen) (captures : List (List Frame)) (r : Report) (why : Stop) (before mid after : Seen) (status : ℕ) → IsGood settings captures r → IsHostStop why before.faults mid.faults → before.faults ≤ mid.faults
-    → BothTold before.files mid.files (IsLeft names r why) → BothTold before.files mid.files (IsStanding names r) → BothTold before.printed mid.printed (Begins why (λ text. text ≡ counter_text_of r.plain))
+    → BothTold before.files mid.files (IsLeft names r why) → BothTold before.files mid.files (IsStanding names r) → BothTold before.printed mid.printed (Begins why (λ text. text ≡ counter_text_of names.ring r.plain r.ring))
     → IsTold names why mid after status → IsAnswer names (Ok (sending names settings captures)) before after (record { status = status; report = Some r })
 write_stopped names settings captures r why before mid after status good fault later left standing begun told =
     let work : Result Work Stop = Ok (sending names settings captures) in

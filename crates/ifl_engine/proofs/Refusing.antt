@@ -1,11 +1,11 @@
 -- Words that are refused, and the status that they give.
-use Rattle.std.proofs.Common.{◌≡◌, ◌≢◌, ℕ, [], Option, None, Result, Ok, Err, refl, sym, ap, subst, arith, inl, inr}
+use Rattle.std.proofs.Common.{◌≡◌, ◌≢◌, ℕ, Option, None, Result, Ok, Err, refl, sym, ap, subst, arith, inl, inr}
 use Rattle.ifl_engine.specs.declared.report.Finished.{Finished}
 use Rattle.ifl_engine.specs.declared.report.Report.{Report}
 use Rattle.ifl_engine.specs.declared.stop.WordsWhy.{WordsWhy}
 use Rattle.ifl_engine.specs.declared.stop.Stop.{Stop}
 use Rattle.ifl_engine.specs.declared.stop.Stop.TheVariants as stop
-use Rattle.ifl_engine.specs.Words.{Named, Asked}
+use Rattle.ifl_engine.specs.Words.{Named, Asked, no_names}
 use Rattle.ifl_engine.specs.Read.{GivesWords}
 use Rattle.ifl_engine.specs.Account.{Source}
 use Rattle.ifl_engine.specs.Wanted.{wanted_by, only_trace, work_of}
@@ -17,18 +17,15 @@ use Rattle.ifl_engine.specs.Steps.{IsRead, IsTold}
 use Rattle.ifl_engine.proofs.CutShort.{begins_empty}
 use Rattle.ifl_engine.proofs.Stopping.{stopped, no_memory}
 
-abbrev none : Named
-none = record { settings = None; wire = []; order = []; files = [] }
-
-refused_as : (r : Result Asked WordsWhy) (source : Source) (why : WordsWhy) (before after : Seen) (status : ℕ) → r ≡ Err why → IsTold none (stop.Words why) before after status
+refused_as : (r : Result Asked WordsWhy) (source : Source) (why : WordsWhy) (before after : Seen) (status : ℕ) → r ≡ Err why → IsTold no_names (stop.Words why) before after status
     → IsAnswer (names_or_none r) (wanted_by r source) before after (record { status = status; report = None })
 refused_as r source why before after status is told =
-    let names : names_or_none r ≡ none = ap names_or_none is in
+    let names : names_or_none r ≡ no_names = ap names_or_none is in
     let w : wanted_by r source ≡ Err (stop.Words why) = ap (λ (q : Result Asked WordsWhy). wanted_by q source) is in
     subst (λ (n : Named). IsAnswer n (wanted_by r source) before after (record { status = status; report = None })) (sym names)
-    (stopped none (wanted_by r source) (stop.Words why) before before after status w (omega arith) (λ five. absurd (omega (arith, five))) refl refl (omega arith) told)
+    (stopped no_names (wanted_by r source) (stop.Words why) before before after status w (omega arith) (λ five. absurd (omega (arith, five))) refl refl (omega arith) told)
 
-pub refused_by_words : (r : Result Asked WordsWhy) (source : Source) (e : Stop) (before after : Seen) (status : ℕ) → GivesWords (Err e) r → IsTold none e before after status
+pub refused_by_words : (r : Result Asked WordsWhy) (source : Source) (e : Stop) (before after : Seen) (status : ℕ) → GivesWords (Err e) r → IsTold no_names e before after status
     → IsAnswer (names_or_none r) (wanted_by r source) before after (record { status = status; report = None })
 refused_by_words r source (stop.Words why) before after status is told = refused_as r source why before after status is told
 refused_by_words r source stop.Memory before after status is told =
@@ -36,7 +33,7 @@ refused_by_words r source stop.Memory before after status is told =
     no_memory (names_or_none r) (wanted_by r source) before before after status refl (begins_empty stop.Memory (IsEnding (wanted_by r source) None) before.printed before.printed refl) (omega arith) here
 refused_by_words r source why before after status is told = absurd is
 
-pub refused_finished : (r : Result Asked WordsWhy) (source : Source) (e : Stop) (before after : Seen) (result : Finished) → result.report ≡ None → GivesWords (Err e) r → IsTold none e before after result.status
+pub refused_finished : (r : Result Asked WordsWhy) (source : Source) (e : Stop) (before after : Seen) (result : Finished) → result.report ≡ None → GivesWords (Err e) r → IsTold no_names e before after result.status
     → IsAnswer (names_or_none r) (wanted_by r source) before after result
 refused_finished r source e before after result without is told =
     subst (λ (o : Option Report). IsAnswer (names_or_none r) (wanted_by r source) before after (record { status = result.status; report = o })) (sym without) (refused_by_words r source e before after result.status is told)

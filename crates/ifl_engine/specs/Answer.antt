@@ -54,7 +54,7 @@ IsByWords (Err e) status = (status ≡ 1) ⊎ (status ≡ 6)
 
 pub record IsDone (names : Named) (r : Report) (before after : Seen) : Type 0 where
   pub files : BothTold before.files after.files (IsWritten names r)
-  pub printed : BothTold before.printed after.printed (λ was now. now ≡ was ++ counter_text_of r.plain)
+  pub printed : BothTold before.printed after.printed (λ was now. now ≡ was ++ counter_text_of names.ring r.plain r.ring)
 
 -- what is printed besides the counters: the fault line that is called for, or the replay of that status
 abbrev pub Tells : Named → Result Work Stop → ℕ → Option (List ℕ) → Option (List ℕ) → Type 0

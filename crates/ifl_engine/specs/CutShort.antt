@@ -20,7 +20,7 @@ RoseTwice before now = min (before + 2) (2 ^ 64 - 1) ≤ now
 
 -- what a run prints at its end: its counters, or the replay of its schedule
 abbrev pub IsEnding : Result Work Stop → Option Report → List ℕ → Type 0
-IsEnding (Ok (sending names settings captures)) report text = IsSomeAnd report (λ r. text ≡ counter_text_of r.plain)
+IsEnding (Ok (sending names settings captures)) report text = IsSomeAnd report (λ r. text ≡ counter_text_of names.ring r.plain r.ring)
 IsEnding (Ok (tracing schedule)) report text = (status : ℕ) × IsReplay schedule text status
 IsEnding (Err why) report text = ⊥
 

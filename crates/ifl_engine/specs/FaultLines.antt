@@ -1,5 +1,5 @@
 -- The fault line of each stop: what stopped the run, with names as given.
-use Rattle.std.specs.Prelude.{ℕ, List, [], ◌∷◌, ◌++◌, None, Result, Ok, Err, codes, decimal, slice_get}
+use Rattle.std.specs.Prelude.{ℕ, List, [], ◌∷◌, ◌++◌, Result, Ok, Err, codes, decimal, slice_get}
 use Rattle.ifl_pcap.specs.Names.{why_name}
 use Rattle.ifl_conf.specs.KeyText.{key_text}
 use Rattle.ifl_engine.specs.declared.stop.WordsWhy.{WordsWhy}
@@ -10,7 +10,7 @@ use Rattle.ifl_engine.specs.declared.stop.Stop.{Stop}
 use Rattle.ifl_engine.specs.declared.stop.Stop.TheVariants as stop
 use Rattle.ifl_engine.specs.declared.stop.Input.{Input}
 use Rattle.ifl_engine.specs.declared.stop.Input.TheVariants as input
-use Rattle.ifl_engine.specs.Words.{Named, Asked, send, trace, asked, or_empty}
+use Rattle.ifl_engine.specs.Words.{Named, Asked, send, trace, asked, no_names, or_empty}
 
 -- the line of words that are refused
 abbrev pub word_line : WordsWhy → List ℕ
@@ -74,12 +74,12 @@ line_of names why = line_for (shown names why) why
 -- the names that the fault lines of a command may tell
 abbrev pub names_asked : Asked → Named
 names_asked (send names) = names
-names_asked (trace file) = record { settings = None; wire = []; order = []; files = file ∷ [] }
+names_asked (trace file) = record no_names { files = file ∷ [] }
 
 -- the names, where the words have them
 abbrev pub names_or_none : Result Asked WordsWhy → Named
 names_or_none (Ok command) = names_asked command
-names_or_none (Err why) = record { settings = None; wire = []; order = []; files = [] }
+names_or_none (Err why) = no_names
 
 abbrev pub names_in : List (List ℕ) → Named
 names_in words = names_or_none (asked words)

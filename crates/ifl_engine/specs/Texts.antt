@@ -1,5 +1,5 @@
 -- The order text and the counter text. 10 is the line feed.
-use Rattle.std.specs.Prelude.{ℕ, List, ◌++◌, length, codes, decimal}
+use Rattle.std.specs.Prelude.{ℕ, Bool, List, [], ◌++◌, cond, length, codes, decimal}
 use Rattle.std.specs.List.{flat_map}
 use Rattle.ifl_base.specs.declared.fate.Fate.{Fate}
 use Rattle.ifl_base.specs.declared.fate.Fate.TheVariants as fate
@@ -7,6 +7,7 @@ use Rattle.ifl_base.specs.declared.fate.Away.{Away}
 use Rattle.ifl_base.specs.declared.fate.Away.TheVariants as away
 use Rattle.ifl_base.specs.declared.word.RingWord.{RingWord}
 use Rattle.ifl_base.specs.Word.{name_of}
+use Rattle.ifl_ringcore.specs.declared.counters.Counters.{Counters}
 use Rattle.ifl_txq.specs.declared.line.OrderLine.{OrderLine}
 use Rattle.ifl_line.specs.declared.away_line.AwayLine.{AwayLine}
 use Rattle.ifl_engine.specs.declared.report.Plain.{Plain}
@@ -53,9 +54,21 @@ abbrev pub order_text_of : List OrderLine → List AwayLine → List ℕ
 order_text_of order turned =
     ((count_line (codes "accepted") (length order) ++ flat_map order_line order) ++ count_line (codes "away") (length turned)) ++ flat_map away_line turned
 
-abbrev pub counter_text_of : Plain → List ℕ
-counter_text_of p =
+-- what the ring counted
+abbrev pub ring_text_of : Counters → List ℕ
+ring_text_of c =
+    count_line (codes "ring_starts") c.starts ++ (count_line (codes "ring_stalls") c.stalls
+    ++ (count_line (codes "ring_restarts") c.restarts ++ (count_line (codes "ring_abdications") c.abdications
+    ++ (count_line (codes "ring_enqueues") c.enqueues ++ count_line (codes "ring_drops") c.drops))))
+
+-- how many lines there are of each kind
+abbrev pub plain_text_of : Plain → List ℕ
+plain_text_of p =
     count_line (codes "frames") p.frames ++ count_line (codes "wire") p.wire ++ count_line (codes "wire_bytes") p.wire_bytes
     ++ count_line (codes "runt") p.runt ++ count_line (codes "oversize") p.oversize
     ++ count_line (codes "no_buffers") p.no_buffers ++ count_line (codes "no_clusters") p.no_clusters
     ++ count_line (codes "too_many_segments") p.too_many_segments ++ count_line (codes "reset") p.reset ++ count_line (codes "flush") p.flush
+
+-- what is printed of a run: the plain counters, and those of the ring where they are asked for
+abbrev pub counter_text_of : Bool → Plain → Counters → List ℕ
+counter_text_of ring p c = plain_text_of p ++ cond ring (ring_text_of c) []

@@ -1,5 +1,5 @@
 -- What the words of the command line ask the engine for: to send the frames of captures, or to replay a schedule.
-use Rattle.std.specs.Prelude.{ℕ, List, [], ◌∷◌, Option, None, Some, option_and_then, Result, Ok, Err, if◌then◌else◌, codes}
+use Rattle.std.specs.Prelude.{ℕ, Bool, false, List, [], ◌∷◌, Option, None, Some, is_some, option_and_then, Result, Ok, Err, if◌then◌else◌, codes}
 use Rattle.std.specs.Str.{bytes_eq}
 use Rattle.ifl_engine.specs.declared.stop.WordsWhy.{WordsWhy}
 use Rattle.ifl_engine.specs.declared.stop.WordsWhy.TheVariants.{NoCommand, UnknownCommand, Refused, Names}
@@ -12,12 +12,18 @@ use Rattle.ifl_conf.specs.Front.{Given}
 use Rattle.ifl_conf.specs.Grammar.{value_of}
 use Rattle.ifl_conf.specs.Reading.{Reading, no_command, unknown_command, refused, names, asks, reading}
 
--- the files that a run reads and writes
+-- the files that a run reads and writes, and what it prints
 pub record Named : Type 0 where
   pub settings : Option (List ℕ)
   pub wire : List ℕ
   pub order : List ℕ
   pub files : List (List ℕ)
+  -- whether the ring's counters are printed too
+  pub ring : Bool
+
+-- no names at all
+abbrev pub no_names : Named
+no_names = record { settings = None; wire = []; order = []; files = []; ring = false }
 
 -- what the words ask for
 pub data Asked : Type 0 where
@@ -45,6 +51,7 @@ named gs fs = record {
   wire = or_empty (value_under (codes "--wire") gs);
   order = or_empty (value_under (codes "--order") gs);
   files = fs;
+  ring = is_some (value_under (codes "--ring") gs);
 }
 
 -- what the command that is written so asks for with these options and FILE words

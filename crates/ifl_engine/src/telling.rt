@@ -1,6 +1,7 @@
 ghost use Rattle.std.specs.Prelude.{◌≡◌, [], ◌∷◌, None, IfOk};
 ghost use Rattle.std.specs.String.{string_bytes};
 ghost use Rattle.ifl_engine.specs.Read.{names_of};
+ghost use Rattle.ifl_engine.specs.Words.{no_names};
 ghost use Rattle.ifl_engine.specs.FaultLines.{line_for, word_line, setting_line, file_number, name_read as name_of_read};
 ghost use Rattle.ifl_engine.specs.Seen.{seen};
 ghost use Rattle.ifl_engine.specs.Steps.{IsToldBy, IsTold};
@@ -122,7 +123,7 @@ fn tell_line<H: Host>(
 
 /// The same, where no name may be told.
 pub fn tell<H: Host>(alloc: Global, stop: Stop, host: &mut H) -> u8
-    ensures { IsTold (record { settings = None; wire = []; order = []; files = [] }) stop
+    ensures { IsTold no_names stop
         (seen H.faults H.files H.printed host.old) (seen H.faults H.files H.printed host.new) result }
 {
     tell_line(alloc, "", "", "", "", stop, host)
@@ -130,7 +131,7 @@ pub fn tell<H: Host>(alloc: Global, stop: Stop, host: &mut H) -> u8
 
 /// The same, where only the name of one FILE may be told.
 pub fn tell_file<H: Host>(alloc: Global, file: &str, stop: Stop, host: &mut H) -> u8
-    ensures { IsTold (record { settings = None; wire = []; order = []; files = file.now ∷ [] }) stop
+    ensures { IsTold (record no_names { files = file.now ∷ [] }) stop
         (seen H.faults H.files H.printed host.old) (seen H.faults H.files H.printed host.new) result }
 {
     let file = if file_number(stop) == 0 { file } else { "" };

@@ -1,11 +1,12 @@
 ghost use Rattle.std.specs.Prelude.{◌≡◌, ◌++◌, codes, IfOk, OnOk};
 ghost use Rattle.std.specs.List.{flat_map};
 ghost use Rattle.std.specs.String.{string_bytes};
-ghost use Rattle.ifl_engine.specs.Texts.{text_line, open_line, field, word_text, count_line, order_line, away_line, order_text_of, counter_text_of};
+ghost use Rattle.ifl_engine.specs.Texts.{text_line, open_line, field, word_text, count_line, order_line, away_line, order_text_of, plain_text_of, ring_text_of, counter_text_of};
 
-use crate::report::Report;
+use crate::report::{Plain, Report};
 use ifl_base::{Away, Fate, NoMemory, RingWord, Ticket};
 use ifl_line::AwayLine;
+use ifl_ringcore::Counters;
 use ifl_txq::OrderLine;
 use std::alloc::Global;
 use std::fmt::Write;
@@ -139,21 +140,44 @@ pub fn order_text(alloc: Global, r: &Report) -> Result<Vec<u8>, NoMemory>
     Ok(out.into_bytes())
 }
 
-/// The counter text of a report: a line for each counter.
-pub fn counter_text(alloc: Global, r: &Report) -> Result<Vec<u8>, NoMemory>
-    ensures { IfOk result (λ v. v.items ≡ counter_text_of r.now.plain) }
+/// Appends how many lines there are of each kind.
+fn put_plain(out: &mut String, plain: Plain) -> Result<(), NoMemory>
+    ensures { OnOk result (string_bytes out.new ≡ string_bytes out.old ++ plain_text_of plain) }
 {
-    let plain = r.plain;
+    put_count(out, "frames", plain.frames)?;
+    put_count(out, "wire", plain.wire)?;
+    put_count(out, "wire_bytes", plain.wire_bytes)?;
+    put_count(out, "runt", plain.runt)?;
+    put_count(out, "oversize", plain.oversize)?;
+    put_count(out, "no_buffers", plain.no_buffers)?;
+    put_count(out, "no_clusters", plain.no_clusters)?;
+    put_count(out, "too_many_segments", plain.too_many_segments)?;
+    put_count(out, "reset", plain.reset)?;
+    put_count(out, "flush", plain.flush)?;
+    Ok(())
+}
+
+/// Appends what the ring counted.
+fn put_ring(out: &mut String, ring: Counters) -> Result<(), NoMemory>
+    ensures { OnOk result (string_bytes out.new ≡ string_bytes out.old ++ ring_text_of ring) }
+{
+    put_count(out, "ring_starts", ring.starts)?;
+    put_count(out, "ring_stalls", ring.stalls)?;
+    put_count(out, "ring_restarts", ring.restarts)?;
+    put_count(out, "ring_abdications", ring.abdications)?;
+    put_count(out, "ring_enqueues", ring.enqueues)?;
+    put_count(out, "ring_drops", ring.drops)?;
+    Ok(())
+}
+
+/// The counter text of a report: a line for each counter, those of the ring where they are asked for.
+pub fn counter_text(alloc: Global, r: &Report, ring: bool) -> Result<Vec<u8>, NoMemory>
+    ensures { IfOk result (λ v. v.items ≡ counter_text_of ring r.now.plain r.now.ring) }
+{
     let mut out = String::new(alloc);
-    put_count(&mut out, "frames", plain.frames)?;
-    put_count(&mut out, "wire", plain.wire)?;
-    put_count(&mut out, "wire_bytes", plain.wire_bytes)?;
-    put_count(&mut out, "runt", plain.runt)?;
-    put_count(&mut out, "oversize", plain.oversize)?;
-    put_count(&mut out, "no_buffers", plain.no_buffers)?;
-    put_count(&mut out, "no_clusters", plain.no_clusters)?;
-    put_count(&mut out, "too_many_segments", plain.too_many_segments)?;
-    put_count(&mut out, "reset", plain.reset)?;
-    put_count(&mut out, "flush", plain.flush)?;
+    put_plain(&mut out, r.plain)?;
+    if ring {
+        put_ring(&mut out, r.ring)?;
+    }
     Ok(out.into_bytes())
 }

@@ -1,7 +1,7 @@
 ghost use Rattle.std.specs.Prelude.{◌≡◌, ◌≢◌, ◌<◌, [], Ok, None, length, map};
 ghost use Rattle.std.specs.String.{string_bytes};
 ghost use Rattle.ifl_outside.specs.Causes.{Rose};
-ghost use Rattle.ifl_engine.specs.Words.{asked as asked_by_words, send};
+ghost use Rattle.ifl_engine.specs.Words.{asked as asked_by_words, no_names, send};
 ghost use Rattle.ifl_engine.specs.Read.{names_of};
 ghost use Rattle.ifl_engine.specs.Account.{ForAccount};
 ghost use Rattle.ifl_engine.specs.Wanted.{sending, wanted, work_of};
@@ -96,7 +96,7 @@ fn send<R: Threads + Wait + Sync, H: Host, G: Gate>(
 /// The end of a run whose words are refused, or for whose words there was no memory.
 fn refuse<H: Host>(alloc: Global, stop: Stop, host: &mut H) -> Finished
     ensures report { result.report ≡ None }
-    ensures told { IsTold (record { settings = None; wire = []; order = []; files = [] }) stop
+    ensures told { IsTold no_names stop
         (seen H.faults H.files H.printed host.old) (seen H.faults H.files H.printed host.new) result.status }
 {
     let status = tell(alloc, stop, host);

@@ -41,14 +41,14 @@ pub fn put_out<H: Host>(
     ensures stop { IfErr result (λ e. IsHostStop e (H.faults host.old) (H.faults host.new)) }
     ensures left { IfErr result (λ e. BothTold (H.files host.old) (H.files host.new) (IsLeft (names_of names.now) report.now e)) }
     ensures begun { IfErr result (λ e. BothTold (H.printed host.old) (H.printed host.new)
-        (λ was now. (part : List ℕ) × IsBegun e (λ text. text ≡ counter_text_of report.now.plain) part × (now ≡ was ++ part))) }
+        (λ was now. (part : List ℕ) × IsBegun e (λ text. text ≡ counter_text_of names.now.ring report.now.plain report.now.ring) part × (now ≡ was ++ part))) }
     ensures standing { BothTold (H.files host.old) (H.files host.new) (IsStanding (names_of names.now) report.now) }
 {
     let order = match order_text(alloc, report) {
         Ok(text) => text,
         Err(NoMemory) => return Err(Stop::Memory),
     };
-    let counters = match counter_text(alloc, report) {
+    let counters = match counter_text(alloc, report, names.ring) {
         Ok(text) => text,
         Err(NoMemory) => return Err(Stop::Memory),
     };

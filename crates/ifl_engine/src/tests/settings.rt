@@ -97,7 +97,12 @@ const ORDER: [(&str, u32, u8, &str); 11] = [
         1,
         "words: refused\n",
     ),
-    ("send --wire w --order o --ring f", 9, 1, "words: refused\n"),
+    (
+        "send --wire w --order o --ring=1 f",
+        9,
+        1,
+        "words: refused\n",
+    ),
     (
         "gen --seed 1 --senders 1 --frames 1 --wire w --order o",
         9,
