@@ -1,12 +1,14 @@
 -- A good report: what it says of the settings and of the captures of its run.
-use Rattle.std.specs.Prelude.{◌≡◌, ℕ, Bool, true, false, List, Some}
+use Rattle.std.specs.Prelude.{◌≡◌, ℕ, Bool, true, false, List, Option, Some, None}
 use Rattle.ifl_conf.specs.declared.choices.AdapterKind.TheVariants as kind
 use Rattle.ifl_conf.specs.declared.choices.Policy.TheVariants as policy
 use Rattle.ifl_conf.specs.declared.choices.Start.TheVariants as start
-use Rattle.ifl_conf.specs.declared.keys.KeyName.TheVariants.{RingSize, RingBudget, RingAbdicate, AdapterKind, AdapterDescriptors, AdapterMaxSegs, AdapterDoorbellEvery, AdapterTurnFrames, AdapterStart, FramesMaxFrame, FramesPolicy, PoolClusters, PoolSegBytes}
-use Rattle.ifl_conf.specs.Choices.{kind_text, policy_text, start_text}
+use Rattle.ifl_conf.specs.declared.keys.KeyName.TheVariants.{RingSize, RingBudget, RingAbdicate, AdapterKind, AdapterDescriptors, AdapterMaxSegs, AdapterDoorbellEvery, AdapterTurnFrames, AdapterStart, AdapterHangAfter, AdapterLinkDownAfter, AdapterLinkDownTurns, FramesMaxFrame, FramesPolicy, PoolClusters, PoolSegBytes, StopMode, StopAfter}
+use Rattle.ifl_conf.specs.declared.choices.StopMode.TheVariants as mode
+use Rattle.ifl_conf.specs.Choices.{kind_text, mode_text, policy_text, start_text}
 use Rattle.ifl_conf.specs.Keys.{flag, number, word}
 use Rattle.ifl_desc.specs.Closed.{ClosedSees}
+use Rattle.ifl_device.specs.declared.plan.EnginePlan.{EnginePlan}
 use Rattle.ifl_pcap.specs.declared.frame.Frame.{Frame}
 use Rattle.ifl_pool.specs.Pools.{ClosedState as ClosedPool}
 use Rattle.ifl_ring.specs.Closed.{ClosedState as ClosedRing}
@@ -18,6 +20,7 @@ use Rattle.ifl_line.specs.declared.rules.Policy.{Policy}
 use Rattle.ifl_line.specs.declared.rules.Policy.TheVariants.{Retry, Drop}
 use Rattle.ifl_line.specs.declared.rules.Rules.{Rules}
 use Rattle.ifl_line.specs.declared.sizes.Sizes.{Sizes}
+use Rattle.ifl_line.specs.Causes.{AreOfLength, FollowsPlan}
 use Rattle.ifl_line.specs.Good.{IsAdapterOf, IsLawful, IsPoolOf, IsRingOf}
 use Rattle.ifl_line.specs.Steps.{packets}
 use Rattle.ifl_engine.specs.declared.report.ClosedLine.{ClosedLine}
@@ -55,6 +58,19 @@ pub record AreRulesBy (set : Chosen) (r : Rules) : Type 0 where
   pub turn_frames : set AdapterTurnFrames ≡ Some (number r.turn_frames)
   pub start : set AdapterStart ≡ Some (word (start_chosen r.after_senders))
 
+abbrev pub mode_chosen : Option ℕ → List ℕ
+mode_chosen None = mode_text mode.Drain
+mode_chosen (Some n) = mode_text mode.Flush
+
+-- when the engine hangs, loses its link and is stopped, by its plan alone
+pub record IsPlanBy (set : Chosen) (p : EnginePlan) : Type 0 where
+  pub hang_after : set AdapterHangAfter ≡ Some (number p.hang_after)
+  pub link_down_after : set AdapterLinkDownAfter ≡ Some (number p.link_down_after)
+  pub link_down_turns : set AdapterLinkDownTurns ≡ Some (number p.link_down_turns)
+  pub mode : set StopMode ≡ Some (word (mode_chosen p.flush_after))
+  pub after : (n : ℕ) → p.flush_after ≡ Some n → set StopAfter ≡ Some (number n)
+  pub alone : p.by_hand ≡ false
+
 -- ---- what the report says
 
 abbrev pub ring_of : ClosedLine → ClosedRing Item
@@ -76,14 +92,19 @@ kind_of (closed.Generation ring desc ends) = kind_text kind.Generation
 pub record IsGoodRun (set : Chosen) (captures : List (List Frame)) (order : List OrderLine) (turned : List AwayLine) (wire : List ℕ) (plain : Plain) (counters : Counters) (ring : ClosedRing Item) (desc : ClosedSees) (pool : ClosedPool) : Type 0 where
   pub sizes : Sizes
   pub rules : Rules
+  pub plan : EnginePlan
   pub sizes_are : AreSizesBy set sizes
   pub rules_are : AreRulesBy set rules
+  pub plan_is : IsPlanBy set plan
   -- the order record and the away lines account for all records
   pub lawful : IsLawful sizes.ring rules captures order turned ring.history
   -- the ring is closed at rest and empty, after a legal history
   pub ring_is : IsRingOf sizes rules ring counters
   -- the descriptor ring is closed and empty, its frames have the fates of the order record, and the wire is that of the order record
   pub adapter : IsAdapterOf sizes captures order (packets ring.history) desc wire
+  -- frames are too long for the adapter exactly where their line says so, and the others came back as the plan lets them
+  pub lengths : AreOfLength sizes.max_segs captures order
+  pub causes : FollowsPlan plan sizes.descriptors order
   -- the pool has all its clusters
   pub pool_is : IsPoolOf sizes rules captures turned ring.history pool
   pub counted : plain ≡ counts_of captures order turned

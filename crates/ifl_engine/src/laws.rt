@@ -1,8 +1,19 @@
 //! Laws above the clauses of `run`, on which callers may build. Each is a function that does nothing, and its contract
 //! is the law.
-ghost use Rattle.std.specs.Prelude.{◌≡◌, ◌⊎◌, ℕ, List, Option, Some, None, Result, Ok, Err};
+ghost use Rattle.std.specs.Prelude.{◌≡◌, ◌⊎◌, ℕ, List, Option, Some, None, Result, Ok, Err, All};
 ghost use Rattle.ifl_outside.specs.Files.{Files, held};
 ghost use Rattle.ifl_outside.specs.Causes.{Rose};
+ghost use Rattle.ifl_conf.specs.declared.choices.Policy.TheVariants as policy;
+ghost use Rattle.ifl_conf.specs.declared.choices.StopMode.TheVariants as mode;
+ghost use Rattle.ifl_conf.specs.declared.keys.KeyName.TheVariants.{AdapterHangAfter, FramesPolicy, StopMode};
+ghost use Rattle.ifl_conf.specs.Choices.{mode_text, policy_text};
+ghost use Rattle.ifl_conf.specs.Keys.{number, word};
+ghost use Rattle.ifl_pcap.specs.declared.frame.Frame.{Frame};
+ghost use Rattle.ifl_line.specs.Causes.{IsSentWhole};
+ghost use Rattle.ifl_line.specs.Runs.{all_from};
+ghost use Rattle.ifl_engine.specs.declared.report.Report.{Report};
+ghost use Rattle.ifl_engine.specs.Loading.{Chosen};
+ghost use Rattle.ifl_engine.specs.Report.{IsGood};
 ghost use Rattle.ifl_engine.specs.declared.report.Finished.{Finished as Ended};
 ghost use Rattle.ifl_engine.specs.declared.stop.Stop.{Stop as Stopped};
 ghost use Rattle.ifl_engine.specs.declared.stop.Input.{Input as Read};
@@ -38,4 +49,11 @@ pub fn stops_leave_no_report()
 pub fn bad_schedules_keep_their_status()
     ensures { (names : Named) (schedule : List ℕ) (before after : Seen) (result : Ended) → IsAnswer names (Ok (tracing schedule)) before after result
         → result.status ≡ 5 → IsLegalSchedule schedule }
+{}
+
+/// Where the settings say that no frame is dropped, that the engine never hangs and that the run drains, the report of
+/// a good run has every fit frame that is not too long for the adapter on the wire.
+pub fn undisturbed_runs_send_every_frame()
+    ensures { (set : Chosen) (captures : List (List Frame)) (r : Report) (good : IsGood set captures r) → set FramesPolicy ≡ Some (word (policy_text policy.Retry)) → set StopMode ≡ Some (word (mode_text mode.Drain)) → set AdapterHangAfter ≡ Some (number 0)
+        → All (IsSentWhole good.run.sizes.max_segs good.run.rules captures r.order) (all_from 0 captures) }
 {}

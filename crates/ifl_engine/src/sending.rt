@@ -1,6 +1,6 @@
 //! The run of `send`, by its settings.
 ghost use Rattle.std.specs.Prelude.{◌≡◌, length, IfOk};
-ghost use Rattle.ifl_engine.specs.Report.{AreRulesBy, AreSizesBy, IsGood, IsGoodRun};
+ghost use Rattle.ifl_engine.specs.Report.{AreRulesBy, AreSizesBy, IsGood, IsGoodRun, IsPlanBy};
 ghost use Rattle.ifl_engine.specs.Loaded.{chosen, each_frames};
 ghost use Rattle.ifl_engine.specs.Steps.{AreSmall};
 
@@ -65,7 +65,9 @@ fn rules_of(settings: &Settings) -> Rules
 }
 
 /// When the engine hangs, loses its link and is stopped.
-fn plan_of(settings: &Settings) -> EnginePlan {
+fn plan_of(settings: &Settings) -> EnginePlan
+    ensures { IsPlanBy (chosen settings.now) result }
+{
     let flush_after = match settings.stop.mode {
         StopMode::Drain => None,
         StopMode::Flush => Some(settings.stop.after as u64),

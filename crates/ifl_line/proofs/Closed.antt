@@ -1,5 +1,5 @@
 -- What a run leaves, once its parts are closed.
-use Rattle.std.proofs.Common.{◌≡◌, ℕ, ◌+◌, ◌≤◌, List, [], ◌++◌, length, map, sym, ap, ◌∙◌, subst, arith}
+use Rattle.std.proofs.Common.{◌≡◌, ℕ, ◌+◌, ◌≤◌, false, List, [], ◌++◌, length, map, take, sym, ap, ◌∙◌, subst, arith}
 use Rattle.std.specs.Prelude.{All, AllPairs}
 use Rattle.std.specs.List.Sorted.{IsPermutation}
 use Rattle.ifl_base.specs.declared.ticket.Ticket.{Ticket}
@@ -10,8 +10,13 @@ use Rattle.ifl_desc.specs.Calls.{Meets}
 use Rattle.ifl_desc.specs.Closed.{ClosedSees, Closes, IsClosed}
 use Rattle.ifl_desc.specs.Ends.{DriverSees, DeviceSees, completed}
 use Rattle.ifl_desc.specs.Frames.{frames_of}
+use Rattle.ifl_desc.specs.Port.{ReaderState, WriterSees, WriterState, IsSetting, state_of}
+use Rattle.ifl_base.specs.declared.fate.Fate.{Fate}
+use Rattle.ifl_device.specs.declared.plan.EnginePlan.{EnginePlan}
+use Rattle.ifl_device.specs.Outcomes.{KeepsPlan}
+use mathlib.Core.List.{IsPrefix}
 use Rattle.ifl_desc.specs.History.{sent}
-use Rattle.ifl_device.specs.Engine.{returned}
+use Rattle.ifl_device.specs.Engine.{outcomes, returned}
 use Rattle.atomic_table.specs.Seated.{TableId}
 use Rattle.ifl_pcap.specs.declared.frame.Frame.{Frame}
 use Rattle.ifl_pcap.specs.File.{written}
@@ -26,11 +31,14 @@ use Rattle.ifl_txq.specs.declared.line.Line.{Line}
 use Rattle.ifl_txq.specs.declared.line.OrderLine.{OrderLine}
 use Rattle.ifl_txq.specs.Done.{AreFramesOf, AreLinesOf, IsDone, frames_with, is_wire, packets_with}
 use Rattle.ifl_txq.specs.Log.{AreTold, LogSees, kept}
-use Rattle.ifl_txq.specs.Standing.{AreTickets}
+use Rattle.ifl_txq.specs.Frames.{fate_of, fates_of}
+use Rattle.ifl_txq.specs.Queue.{SawFlush, posted_list, reclaimed_list}
+use Rattle.ifl_txq.specs.Standing.{AreTickets, IsFaithful, Tells}
 use Rattle.ifl_line.specs.declared.away_line.AwayLine.{AwayLine}
 use Rattle.ifl_line.specs.declared.rules.Rules.{Rules}
 use Rattle.ifl_line.specs.declared.sizes.Sizes.{Sizes}
-use Rattle.ifl_line.specs.Good.{IsAdapterOf, IsLawful, IsPoolOf}
+use Rattle.ifl_line.specs.Causes.{AreOfLength, FollowsPlan}
+use Rattle.ifl_line.specs.Good.{ArePacketsOf, IsAdapterOf, IsLawful, IsPoolOf}
 use Rattle.ifl_line.specs.Frames.{lines_with, no_clusters_in}
 use Rattle.ifl_line.specs.Lines.{AreSmall}
 use Rattle.ifl_line.specs.Remains.{IsDoneEngine, IsDoneQueue}
@@ -38,6 +46,8 @@ use Rattle.ifl_line.specs.Runs.{AreShort, IsBefore, IsInFileOrder, IsLineOf, all
 use Rattle.ifl_line.specs.Sent.{IsSent, all_needs}
 use Rattle.ifl_line.specs.Steps.{packets, refusals, weigh}
 use Rattle.ifl_txq.proofs.Closing.{is_done}
+use Rattle.ifl_txq.proofs.Standing.{back_there, returned_there}
+use Rattle.ifl_line.proofs.Causing.{fates_of-returned, flush_stays, follows_plan, of_length, take_length}
 use Rattle.ifl_line.proofs.Concluding.{packets_in-published, weight_in-published}
 use Rattle.ifl_line.proofs.Naming.{account}
 use Rattle.ifl_line.proofs.Ordering.{lines_named, lines_told, lines_with-all_lines, no_clusters_in-all_lines, own_tickets, tickets_same}
@@ -81,13 +91,19 @@ module _ (size : ℕ) (r : Rules) (files : List (List Frame)) (turned : List (Li
 
   -- ---- the queue and its adapter
 
-  module _ (ring : TableId) (driver : DriverSees) (device : DeviceSees) (pass : PassState) (log : LogSees) (wire : List ℕ) (d' : DriverSees) (v' : DeviceSees)
-      (q : IsDoneQueue ring (map length files) es driver pass log) (e : IsDoneEngine ring device wire) (m : Meets driver device d' v') where
+  module _ (ring : TableId) (max : ℕ) (plan : EnginePlan) (driver : DriverSees) (reader : ReaderState) (device : DeviceSees) (writer : WriterSees) (pass : PassState) (log : LogSees) (wire : List ℕ) (d' : DriverSees) (v' : DeviceSees)
+      (q : IsDoneQueue ring max (map length files) es driver reader pass log) (e : IsDoneEngine ring plan device writer wire) (m : Meets driver device d' v') where
     met : Meets q.queue.driver e.engine.device d' v'
     met = subst (λ (z : DriverSees × DeviceSees). Meets z.0 z.1 d' v') (λ i. (q.driver_is i, e.device_is i)) m
 
+    true_back : IsFaithful q.queue.driver
+    true_back = faithful q.queue.driver d' e.engine v' e.lawful met
+
+    own : AreTickets q.queue.log.counts (published es)
+    own = subst (λ (z : List ℕ). AreTickets z (published es)) (sym q.counts_are) (own_tickets size r files turned es counts short sends)
+
     pub done : IsDone q.queue (published es)
-    done = is_done q.queue q.lawful q.done (faithful q.queue.driver d' e.engine v' e.lawful met) (published es) (subst (λ (z : List ℕ). AreTickets z (published es)) (sym q.counts_are) (own_tickets size r files turned es counts short sends)) q.stands
+    done = is_done q.queue q.lawful q.done true_back (published es) own q.stands
 
     pub device_done : (completed v' ≡ v'.fetched) × (v'.ready ≡ [])
     device_done = met_done q.queue.driver d' e.engine v' e.lawful met e.none
@@ -119,3 +135,26 @@ module _ (size : ℕ) (r : Rules) (files : List (List Frame)) (turned : List (Li
           frames = subst (λ (x : List Meaning × List Line × List Desc). AreFramesOf x.0 x.1 (frames_of x.2)) (λ i. (packets_in-published es i, sym kept_lines i, sym back i)) done.frames;
           capture = e.wire_is ∙ e.lawful.wire ∙ ap written (sym (rebuilt-frames_with (frames_of (returned e.engine)) e.lawful.outcome) ∙ ap (map rebuilt) (sym wires) ∙ rebuilt-packets_with r files order (packets es) right.accepted);
         }
+
+    -- what the log tells of the packets, as the engine returned them
+    tells : Tells max (SawFlush reader) (packets es) log.lines (frames_of (posted_list q.queue.driver)) (map fate_of (outcomes e.engine))
+    tells = let all : returned e.engine ≡ sent Device q.queue.driver.seen = returned_all q.queue.driver d' e.engine v' e.lawful met done.all in
+        let b = back_there q.queue.driver q.lawful.lawful in let o = returned_there q.queue.driver q.lawful.lawful in let same = done.all in let last = q.done in
+        let whole : q.queue.driver.back ≡ length (sent Device q.queue.driver.seen) = omega arith in
+        let back : reclaimed_list q.queue.driver ≡ returned e.engine = ap (λ (n : ℕ). take n (sent Device q.queue.driver.seen)) whole ∙ take_length (sent Device q.queue.driver.seen) ∙ sym all in
+        let fates : fates_of (reclaimed_list q.queue.driver) ≡ map fate_of (outcomes e.engine) = ap fates_of back ∙ fates_of-returned (returned e.engine) e.lawful.outcome in
+        subst (λ (z : ℕ × ReaderState × List Meaning × List Line × List Fate). Tells z.0 (SawFlush z.1) z.2 z.3 (frames_of (posted_list q.queue.driver)) z.4)
+        (λ i. (q.max_is i, sym q.reader_is i, packets_in-published es i, (sym q.log_is i).lines, fates i)) (q.stands true_back own).tells
+
+    pub lengths : (order : List OrderLine) → map kept order ≡ log.lines → ArePacketsOf r files order (packets es) → AreOfLength max files order
+    lengths order is named = of_length max (SawFlush reader) r files (packets es) order (frames_of (posted_list q.queue.driver)) (outcomes e.engine)
+        (subst (λ (z : List Line). Tells max (SawFlush reader) (packets es) z (frames_of (posted_list q.queue.driver)) (map fate_of (outcomes e.engine))) (sym is) tells) named
+
+    pub causes : (z : Sizes) (order : List OrderLine) → ring.slots ≡ z.descriptors → map kept order ≡ log.lines → IsPrefix reader.known writer.known → IsSetting writer.known → plan.by_hand ≡ false → FollowsPlan plan z.descriptors order
+    causes z order slots is knew lawful_port planned =
+        let keeps : KeepsPlan plan z.descriptors (outcomes e.engine) (state_of writer.known) =
+        subst (λ (z : EnginePlan × ℕ × WriterState). KeepsPlan z.0 z.1 (outcomes e.engine) (state_of z.2.known)) (λ i. (e.plan_is i, (ap (λ (x : TableId). x.slots) e.of_ring ∙ slots) i, sym e.writer_is i))
+        (e.lawful.planned (ap (λ (x : EnginePlan). x.by_hand) e.plan_is ∙ planned)) in
+        follows_plan max (SawFlush reader) plan (packets es) order (frames_of (posted_list q.queue.driver)) z.descriptors (outcomes e.engine) (state_of writer.known)
+        (subst (λ (z : List Line). Tells max (SawFlush reader) (packets es) z (frames_of (posted_list q.queue.driver)) (map fate_of (outcomes e.engine))) (sym is) tells) keeps
+        (flush_stays reader.known writer.known knew lawful_port)

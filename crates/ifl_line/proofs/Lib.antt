@@ -20,4 +20,6 @@ pub mod Returning
 pub mod Wiring
 pub mod Ordering
 pub mod Listing
+pub mod Causing
+pub mod Completing
 pub mod Closed

@@ -34,7 +34,7 @@ joined-bytes (d ∷ ds) = ap (λ (z : List ℕ). d.seg.bytes ++ z) (joined-bytes
 
 -- ---- frames that were returned
 
-is_wire-fate_of : (s : Status) → is_wire (fate_of s) ≡ is_emitted s
+pub is_wire-fate_of : (s : Status) → is_wire (fate_of s) ≡ is_emitted s
 is_wire-fate_of Posted = refl
 is_wire-fate_of Emitted = refl
 is_wire-fate_of Aborted = refl
@@ -43,7 +43,7 @@ is_wire-fate_of Filled = refl
 is_wire-fate_of Unused = refl
 
 -- entries that all have one status give its fate
-fate-same : (s : Status) (d : Desc) (ds : List Desc) → map (returned_as s) (d ∷ ds) ≡ d ∷ ds → frame_fate (d ∷ ds) ≡ fate_of s
+pub fate-same : (s : Status) (d : Desc) (ds : List Desc) → map (returned_as s) (d ∷ ds) ≡ d ∷ ds → frame_fate (d ∷ ds) ≡ fate_of s
 fate-same s d [] e = ap (λ (z : List Desc). fate_of (status_of z)) (sym e)
 fate-same s d (x ∷ ds) e = fate-same s x ds (ap rest_of e)
 

@@ -14,4 +14,5 @@ pub mod Loads
 pub mod Passes
 pub mod Lines
 pub mod Good
+pub mod Causes
 pub mod Remains

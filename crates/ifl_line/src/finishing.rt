@@ -1,5 +1,6 @@
 //! The end of a run: its parts are closed, and what they leave is put together.
-ghost use Rattle.std.specs.Prelude.{◌≡◌, ◌+◌, ◌^◌, ◌<◌, ◌≤◌, ◌++◌, [], length, map, vec_len, vec_capacity};
+ghost use Rattle.std.specs.Prelude.{◌≡◌, ◌+◌, ◌^◌, ◌<◌, ◌≤◌, ◌++◌, false, [], length, map, vec_len, vec_capacity};
+ghost use Rattle.ifl_line.specs.Causes.{AreOfLength, FollowsPlan};
 ghost use Rattle.ifl_line.specs.Good.{IsLawful, IsRingOf, IsAdapterOf, IsPoolOf};
 ghost use Rattle.ifl_line.specs.Lines.{AreSmall};
 ghost use Rattle.ifl_line.specs.Remains.{AreWhole, IsDoneEngine, IsDoneQueue};
@@ -16,6 +17,7 @@ use crate::rules::Rules;
 use crate::sizes::Sizes;
 use ifl_base::Ticket;
 use ifl_desc::DescRing;
+use ifl_device::EnginePlan;
 use ifl_pool::ClosedPool;
 use ifl_ring::ClosedRing;
 use ifl_ringcore::Counters;
@@ -88,6 +90,7 @@ pub(crate) fn finish<R: DescRing, W: Wait>(
     ended: &[Ended],
     room: Vec<AwayLine>,
     sizes: Sizes,
+    engine_plan: EnginePlan,
     rules: Rules,
 ) -> Sent<R>
     requires slots { (R.ring plan.ring).slots ≡ sizes.descriptors }
@@ -95,8 +98,8 @@ pub(crate) fn finish<R: DescRing, W: Wait>(
     requires few { AreShort (files_in ended.now) }
     requires room { (room.items ≡ []) × (length (all_lines (turned_in ended.now)) ≤ vec_capacity room) }
     requires ring { IsRingOf sizes rules remains.ring remains.counters }
-    requires queue { IsDoneQueue (R.ring plan.ring) (map length (files_in ended.now)) remains.ring.history (R.driver_sees remains.driver) remains.queue_pass remains.log }
-    requires engine { IsDoneEngine (R.ring plan.ring) (R.device_sees remains.device) remains.wire.items }
+    requires queue { IsDoneQueue (R.ring plan.ring) sizes.max_segs (map length (files_in ended.now)) remains.ring.history (R.driver_sees remains.driver) remains.reader remains.queue_pass remains.log }
+    requires engine { IsDoneEngine (R.ring plan.ring) engine_plan (R.device_sees remains.device) remains.writer remains.wire.items }
     requires passes { AreWhole plan.pool remains.queue_pass remains.pass }
     requires port { (remains.reader.port ≡ plan.port) × (remains.writer.port ≡ plan.port) }
     requires sent { IsSent sizes.ring rules 0 (files_in ended.now) (turned_in ended.now) remains.ring.history remains.pass.known.counts }
@@ -105,6 +108,8 @@ pub(crate) fn finish<R: DescRing, W: Wait>(
     ensures ring { IsRingOf sizes rules result.ring result.counters }
     ensures adapter { IsAdapterOf sizes (files_in ended.now) result.order.items (packets result.ring.history) (R.Closed.ClosedList.closed_sees result.desc) result.wire.items }
     ensures pool { IsPoolOf sizes rules (files_in ended.now) result.away.items result.ring.history result.pool }
+    ensures lengths { AreOfLength sizes.max_segs (files_in ended.now) result.order.items }
+    ensures causes { engine_plan.by_hand ≡ false → FollowsPlan engine_plan sizes.descriptors result.order.items }
 {
     let Plan {
         ring: slots,

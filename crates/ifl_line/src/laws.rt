@@ -1,7 +1,8 @@
 //! What the parts of a run come to, in the subject's own words. A law is a function that does nothing, and its contract
 //! is the law.
-ghost use Rattle.std.specs.Prelude.{◌≡◌, ◌<◌, ◌+◌, ◌++◌, ℕ, List, length, map, slice_index_or, All};
+ghost use Rattle.std.specs.Prelude.{◌≡◌, ◌<◌, ◌+◌, ◌++◌, ℕ, List, None, length, map, slice_index_or, All};
 ghost use Rattle.std.specs.List.{AllWithin};
+ghost use Rattle.ifl_device.specs.declared.plan.EnginePlan.{EnginePlan};
 ghost use Rattle.ifl_pcap.specs.declared.frame.Frame.{Frame};
 ghost use Rattle.ifl_pool.specs.declared.history.Counts.{Counts};
 ghost use Rattle.ifl_pool.specs.History.{counts_sum};
@@ -9,15 +10,18 @@ ghost use Rattle.ifl_ring.specs.Merges.{IsMerge};
 ghost use Rattle.ifl_ringcore.specs.declared.history.Entry.{Entry};
 ghost use Rattle.ifl_ringcore.specs.History.{state_after};
 ghost use Rattle.ifl_ringcore.specs.State.{first_state};
+ghost use Rattle.ifl_txq.specs.declared.line.OrderLine.{OrderLine};
 ghost use Rattle.ifl_txq.specs.Standing.{AreTickets, packets as packets_in, weight_of as weight_in};
 ghost use Rattle.ifl_line.specs.declared.away_line.AwayLine.{AwayLine};
 ghost use Rattle.ifl_line.specs.declared.jobs.Job.{Job};
 ghost use Rattle.ifl_line.specs.declared.line.Line.{Line};
 ghost use Rattle.ifl_line.specs.declared.rules.Policy.TheVariants.{Retry};
 ghost use Rattle.ifl_line.specs.declared.rules.Rules.{Rules};
+ghost use Rattle.ifl_line.specs.Causes.{AreOfLength, FollowsPlan, IsSentWhole};
 ghost use Rattle.ifl_line.specs.Frames.{IsByLength};
+ghost use Rattle.ifl_line.specs.Good.{IsLawful};
 ghost use Rattle.ifl_line.specs.Jobs.{HasEnded, MayBegin};
-ghost use Rattle.ifl_line.specs.Runs.{AreShort, IsAccount, all_lines, published};
+ghost use Rattle.ifl_line.specs.Runs.{AreShort, IsAccount, all_from, all_lines, published};
 ghost use Rattle.ifl_line.specs.Sent.{IsSent};
 ghost use Rattle.ifl_line.specs.Steps.{packets, weigh};
 ghost use Rattle.ifl_line.specs.Works.{AllDone, AreAt, AreSet, tasks_of};
@@ -45,6 +49,12 @@ pub fn packets_have_tickets_of_their_own()
 /// Where frames are not dropped, every frame that is turned away is too short or too long.
 pub fn retry_turns_away_by_length_alone()
     ensures { (size : ℕ) (r : Rules) (files : List (List Frame)) (turned : List (List AwayLine)) (es : List Entry) (c : Counts) → AreShort files → r.policy ≡ Retry → IsSent size r 0 files turned es c → All (λ l. IsByLength l.away) (all_lines turned) }
+{}
+
+/// Where frames are not dropped, and the engine neither hangs nor is stopped, every fit frame that is not too long for
+/// the adapter is on the wire.
+pub fn an_undisturbed_run_sends_every_frame()
+    ensures { (size max descriptors : ℕ) (r : Rules) (plan : EnginePlan) (files : List (List Frame)) (order : List OrderLine) (away : List AwayLine) (es : List Entry) → r.policy ≡ Retry → plan.hang_after ≡ 0 → plan.flush_after ≡ None → IsLawful size r files order away es → AreOfLength max files order → FollowsPlan plan descriptors order → All (IsSentWhole max r files order) (all_from 0 files) }
 {}
 
 /// The items that a ring records are those that were published, of which the packets and the weight are what its

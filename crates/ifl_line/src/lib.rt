@@ -4,16 +4,17 @@
 //! `ifl_desc`, `ifl_device` and `ifl_reset` for the adapter's engine under its turnstile, and on `ifl_mbuf`, `ifl_pcap`,
 //! `ifl_outside` and `ifl_base`. Its one contract is that of [`send_captures`]: every record of the captures is accepted
 //! or turned away, once; the order record has the accepted frames, each sender's in the order of its capture, each with
-//! one fate; the wire is the capture of those with fate wire; every other frame has a line that says why; the ring, the
-//! descriptor ring and the pool are closed with nothing left in them, and every cluster is back.
+//! one fate, which its length and the engine's plan allow; the wire is the capture of those with fate wire; every other
+//! frame has a line that says why; the ring, the descriptor ring and the pool are closed with nothing left in them, and
+//! every cluster is back.
 //!
 //! `fit_out` makes what a line belongs to, `assemble` the line, `transmit` runs it, `close` ends it, and `finish` puts
 //! together what is left. A line lives no longer than what it belongs to, so it is taken apart before that is closed.
 //!
 //! `specs/` reads in this order: `Meanings` and `Steps` (what entries publish), `Frames` (what becomes of one sender's
-//! frames), `Sent` (what a part of a run did), `Runs` (what that comes to for the files), `Good` (what a run leaves);
-//! `Hands`, `Obtains`, `Ready`, `Runners`, `Jobs`, `Works`, `Loads`, `Passes`, `Lines` and `Remains` are for the
-//! functions below it.
+//! frames), `Sent` (what a part of a run did), `Runs` (what that comes to for the files), `Good` (what a run leaves),
+//! `Causes` (why a frame has its fate); `Hands`, `Obtains`, `Ready`, `Runners`, `Jobs`, `Works`, `Loads`, `Passes`,
+//! `Lines` and `Remains` are for the functions below it.
 #![tactic(auto)]
 
 mod assembling;

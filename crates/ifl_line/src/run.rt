@@ -1,8 +1,9 @@
 //! A whole run, from its captures to what it leaves.
-ghost use Rattle.std.specs.Prelude.{◌≡◌, ◌≤◌, [], length, map, sum, IfOk};
+ghost use Rattle.std.specs.Prelude.{◌≡◌, ◌≤◌, false, [], length, map, sum, IfOk};
 ghost use Rattle.ifl_desc.specs.Ends.{IsNewDevice, IsNewDriver};
 ghost use Rattle.ifl_desc.specs.Port.{reader_of, writer_of};
 ghost use Rattle.ifl_pcap.specs.File.{written};
+ghost use Rattle.ifl_line.specs.Causes.{AreOfLength, FollowsPlan};
 ghost use Rattle.ifl_line.specs.Good.{IsLawful, IsRingOf, IsAdapterOf, IsPoolOf};
 ghost use Rattle.ifl_line.specs.Passes.{ArePasses};
 ghost use Rattle.ifl_line.specs.Remains.{AreWhole, IsDoneEngine, IsDoneQueue};
@@ -51,8 +52,8 @@ fn run_line<'a, R: DescRing + 'static, T: Threads + Wait + Sync, G: Gate>(
     requires wire { tokens.wire.bytes ≡ written [] }
     ensures captures { IfOk result (λ p. captures_of p.1.items ≡ captures.items) }
     ensures ring { IfOk result (λ p. IsRingOf sizes rules p.0.ring p.0.counters) }
-    ensures queue { IfOk result (λ p. IsDoneQueue (R.ring plan.now.ring) (map length (files_of captures.items)) p.0.ring.history (R.driver_sees p.0.driver) p.0.queue_pass p.0.log) }
-    ensures engine { IfOk result (λ p. IsDoneEngine (R.ring plan.now.ring) (R.device_sees p.0.device) p.0.wire.items) }
+    ensures queue { IfOk result (λ p. IsDoneQueue (R.ring plan.now.ring) sizes.max_segs (map length (files_of captures.items)) p.0.ring.history (R.driver_sees p.0.driver) p.0.reader p.0.queue_pass p.0.log) }
+    ensures engine { IfOk result (λ p. IsDoneEngine (R.ring plan.now.ring) engine_plan (R.device_sees p.0.device) p.0.writer p.0.wire.items) }
     ensures passes { IfOk result (λ p. AreWhole plan.now.pool p.0.queue_pass p.0.pass) }
     ensures port { IfOk result (λ p. (p.0.reader.port ≡ plan.now.port) × (p.0.writer.port ≡ plan.now.port)) }
     ensures sent { IfOk result (λ p. IsSent sizes.ring rules 0 (files_in p.1.items) (turned_in p.1.items) p.0.ring.history p.0.pass.known.counts) }
@@ -118,6 +119,8 @@ pub fn send_captures<R: DescRing + 'static, T: Threads + Wait + Sync, G: Gate>(
     ensures ring { IfOk result (λ s. IsRingOf sizes rules s.ring s.counters) }
     ensures adapter { IfOk result (λ s. IsAdapterOf sizes (files_of captures.items) s.order.items (packets s.ring.history) (R.Closed.ClosedList.closed_sees s.desc) s.wire.items) }
     ensures pool { IfOk result (λ s. IsPoolOf sizes rules (files_of captures.items) s.away.items s.ring.history s.pool) }
+    ensures lengths { IfOk result (λ s. AreOfLength sizes.max_segs (files_of captures.items) s.order.items) }
+    ensures causes { IfOk result (λ s. engine_plan.by_hand ≡ false → FollowsPlan engine_plan sizes.descriptors s.order.items) }
 {
     let room = Vec::with_capacity(alloc, count(&captures))?;
     let (plan, tokens) = fit_out::<R, T>(rt, alloc, sizes, &captures)?;
@@ -132,5 +135,5 @@ pub fn send_captures<R: DescRing + 'static, T: Threads + Wait + Sync, G: Gate>(
         captures,
         gate,
     )?;
-    Ok(finish(rt, plan, remains, &ended, room, sizes, rules))
+    Ok(finish(rt, plan, remains, &ended, room, sizes, engine_plan, rules))
 }

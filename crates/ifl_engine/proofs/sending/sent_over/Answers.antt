@@ -6,6 +6,7 @@ use Rattle.ifl_pcap.specs.declared.frame.Frame.{Frame}
 use Rattle.ifl_txq.specs.declared.line.OrderLine.{OrderLine}
 use Rattle.ifl_txq.specs.Done.{is_reset, is_wire}
 use Rattle.ifl_line.specs.declared.away_line.AwayLine.{AwayLine}
+use Rattle.ifl_line.specs.Causes.{AreOfLength}
 use Rattle.ifl_line.specs.Good.{IsAdapterOf, IsLawful, IsPoolOf, emitted}
 use Rattle.ifl_line.specs.Steps.{packets}
 use Rattle.ifl_line.specs.Works.{files_of}
@@ -40,11 +41,15 @@ returns g c =
     c.frame_count-frames.ensures ∙ ap (sum_by (λ (x : Capture). length x.frames)) c.deref.ensures.value ∙ sym (sum_by-map length frames_of c.args.captures.items) in record {
       sizes = c.sizes_of.result;
       rules = c.rules_of.result;
+      plan = c.plan_of.result;
       sizes_are = c.sizes_of.ensures;
       rules_are = c.rules_of.ensures;
+      plan_is = c.plan_of.ensures;
       lawful = subst (λ (z : List (List Frame)). IsLawful c.sizes_of.result.ring c.rules_of.result z order away sent.ring.history) same c.in_ok-sent.ensures.lawful;
       ring_is = c.in_ok-sent.ensures.ring;
       adapter = subst (λ (z : List (List Frame)). IsAdapterOf c.sizes_of.result z order (packets sent.ring.history) (g.R.Closed.ClosedList.closed_sees sent.desc) sent.wire.items) same c.in_ok-sent.ensures.adapter;
+      lengths = subst (λ (z : List (List Frame)). AreOfLength c.sizes_of.result.max_segs z order) same c.in_ok-sent.ensures.lengths;
+      causes = c.in_ok-sent.ensures.causes c.plan_of.ensures.alone;
       pool_is = subst (λ (z : List (List Frame)). IsPoolOf c.sizes_of.result c.rules_of.result z away sent.ring.history sent.pool) same c.in_ok-sent.ensures.pool;
       counted = λ i. record {
         frames = frames i;

@@ -2,6 +2,7 @@ use Rattle.std.proofs.Common.{◌≡◌, List, length, map, sym, subst, ap, ◌�
 use Rattle.std.specs.Prelude.{sum}
 use Rattle.ifl_pcap.specs.declared.frame.Frame.{Frame}
 use Rattle.ifl_line.specs.declared.gathering.Ended.{Ended}
+use Rattle.ifl_line.specs.Causes.{AreOfLength}
 use Rattle.ifl_line.specs.Good.{IsAdapterOf, IsLawful, IsPoolOf}
 use Rattle.ifl_line.specs.Remains.{IsDoneQueue}
 use Rattle.ifl_line.specs.Runs.{AreShort, all_lines}
@@ -23,7 +24,7 @@ finish-requires-clause-room g c κs within = let same : files_in c.deref-3.resul
 
 pub finish-requires-clause-queue : goal.finish-requires-clause-queue
 finish-requires-clause-queue g c κs within = let same : files_in c.deref-3.result.now ≡ files_of c.args.captures.items = ap files_in c.deref-3.ensures.value ∙ files_in-captures_of c.in_ok-remains.ended.items ∙ ap files_of c.in_ok-remains.ensures.captures in
-    subst (λ (z : List (List Frame)). IsDoneQueue (g.R.DescRing.ring c.in_ok-plan.plan.ring) (map length z) c.in_ok-remains.remains.ring.history (g.R.DescRing.driver_sees c.in_ok-remains.remains.driver) c.in_ok-remains.remains.queue_pass c.in_ok-remains.remains.log) (sym same) c.in_ok-remains.ensures.queue
+    subst (λ (z : List (List Frame)). IsDoneQueue (g.R.DescRing.ring c.in_ok-plan.plan.ring) c.args.sizes.max_segs (map length z) c.in_ok-remains.remains.ring.history (g.R.DescRing.driver_sees c.in_ok-remains.remains.driver) c.in_ok-remains.remains.reader c.in_ok-remains.remains.queue_pass c.in_ok-remains.remains.log) (sym same) c.in_ok-remains.ensures.queue
 
 pub returns-clause-lawful : goal.returns-clause-lawful
 returns-clause-lawful g c = let same : files_in c.deref-3.result.now ≡ files_of c.args.captures.items = ap files_in c.deref-3.ensures.value ∙ files_in-captures_of c.in_ok-remains.ended.items ∙ ap files_of c.in_ok-remains.ensures.captures in
@@ -36,3 +37,7 @@ returns-clause-adapter g c = let same : files_in c.deref-3.result.now ≡ files_
 pub returns-clause-pool : goal.returns-clause-pool
 returns-clause-pool g c = let same : files_in c.deref-3.result.now ≡ files_of c.args.captures.items = ap files_in c.deref-3.ensures.value ∙ files_in-captures_of c.in_ok-remains.ended.items ∙ ap files_of c.in_ok-remains.ensures.captures in
     subst (λ (z : List (List Frame)). IsPoolOf c.args.sizes c.args.rules z c.finish.result.away.items c.finish.result.ring.history c.finish.result.pool) same c.finish.ensures.pool
+
+pub returns-clause-lengths : goal.returns-clause-lengths
+returns-clause-lengths g c = let same : files_in c.deref-3.result.now ≡ files_of c.args.captures.items = ap files_in c.deref-3.ensures.value ∙ files_in-captures_of c.in_ok-remains.ended.items ∙ ap files_of c.in_ok-remains.ensures.captures in
+    subst (λ (z : List (List Frame)). AreOfLength c.args.sizes.max_segs z c.finish.result.order.items) same c.finish.ensures.lengths
