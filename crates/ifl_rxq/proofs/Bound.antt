@@ -1,5 +1,5 @@
 -- How many buffers are free when a frame arrives.
-use Rattle.std.proofs.Common.{◌≡◌, ℕ, zero, suc, ◌+◌, ◌-◌, ◌%◌, ◌<◌, ◌≤◌, ◌⊎◌, inl, inr, Bool, true, false, cond, nat_eq, ne_eqb, min, List, [], ◌∷◌, ◌++◌, length, take, get_or, sym, refl, ap, ◌∙◌, subst, arith, append-nil, append_assoc, length-append}
+use Rattle.std.proofs.Common.{◌≡◌, ℕ, zero, suc, ◌+◌, ◌-◌, ◌%◌, ◌<◌, ◌≤◌, ◌⊎◌, inl, inr, Bool, cond, nat_eq, ne_eqb, min, List, [], ◌∷◌, ◌++◌, length, take, get_or, sym, refl, ap, ◌∙◌, subst, arith, append-nil, length-append}
 use mathlib.Core.List.{IsPrefix}
 use Rattle.std.proofs.Math.Nat.{mod-add-mod, mod-eq_of_lt, add-mod_right}
 use Rattle.ifl_base.specs.declared.limits.TheConstants.{PART}
@@ -7,8 +7,8 @@ use Rattle.ifl_pcap.specs.declared.frame.Frame.{Frame}
 use Rattle.ifl_desc.specs.declared.desc.Desc.{Desc}
 use Rattle.ifl_desc.specs.declared.history.Event.{Event}
 use Rattle.ifl_desc.specs.declared.history.Side.TheVariants.{Driver, Device}
-use Rattle.ifl_desc.specs.History.{sent, known, own}
-use Rattle.ifl_desc.specs.Frames.{open_after, frames_of}
+use Rattle.ifl_desc.specs.History.{sent}
+use Rattle.ifl_desc.specs.Frames.{frames_of}
 use Rattle.ifl_desc.specs.Ends.{DriverSees, DeviceSees}
 use Rattle.ifl_desc.specs.Calls.{Meets}
 use Rattle.ifl_desc.proofs.Closing.{prefix_trans, no_less}
@@ -17,7 +17,7 @@ use Rattle.ifl_device.specs.Receive.{RxSees, IsRx, Returns, IsStored, free_of, n
 use Rattle.ifl_desc.proofs.Splitting.{frames_more, returned_open}
 use Rattle.ifl_rxq.specs.declared.line.MissedLine.{MissedLine}
 use Rattle.ifl_rxq.specs.FreeLists.{FreeSees, IsFreeList, Refills, accounted, outstanding, avail_of}
-use Rattle.ifl_rxq.specs.Receive.{Arrives, HasBuffers, Ran, full_of, used_before}
+use Rattle.ifl_rxq.specs.Receive.{Arrives, HasBuffers, Ran, used_before}
 use Rattle.ifl_rxq.specs.Worker.{HasArrived, full_for}
 use Rattle.ifl_rxq.proofs.Runs.{ran_stored, ran_missed}
 

@@ -1,34 +1,28 @@
 -- A free list after each of its steps.
-use Rattle.std.proofs.Common.{◌≡◌, ℕ, zero, suc, ◌+◌, ◌-◌, ◌*◌, ◌^◌, ◌<◌, ◌≤◌, ◌⊎◌, inl, inr, min, Bool, true, false, cond, nat_le, List, [], ◌∷◌, ◌++◌, length, map, take, drop, sym, refl, ap, ◌∙◌, subst, arith, append-nil, append_assoc, length-append}
-use mathlib.Core.List.{IsPrefix}
+use Rattle.std.proofs.Common.{◌≡◌, ℕ, suc, ◌+◌, ◌-◌, ◌*◌, ◌^◌, ◌<◌, ◌≤◌, min, Bool, true, false, cond, nat_le, List, [], ◌∷◌, ◌++◌, length, map, take, sym, refl, ap, ◌∙◌, subst, arith, append-nil, length-append}
 use Rattle.atomic_table.specs.Seated.{TableId}
-use Rattle.ifl_base.specs.declared.limits.TheConstants.{PART}
 use Rattle.std.proofs.lemmas.List.{map-append}
-use Rattle.std.specs.List.{flat_map}
-use Rattle.ifl_pcap.specs.declared.frame.Frame.{Frame}
 use Rattle.ifl_pcap.specs.File.{written, record_of}
 use Rattle.ifl_pool.specs.declared.known.Known.{Known}
-use Rattle.ifl_pool.specs.Pools.{PoolId}
 use Rattle.ifl_desc.specs.declared.desc.Desc.{Desc}
 use Rattle.ifl_desc.specs.declared.history.Event.{Event}
 use Rattle.ifl_desc.specs.declared.history.Event.TheVariants.{Sent}
 use Rattle.ifl_desc.specs.declared.history.Side.TheVariants.{Driver, Device}
-use Rattle.ifl_desc.specs.History.{sent, known, looks}
-use Rattle.ifl_desc.specs.Frames.{open_after, frames_of, IsWholeFrame}
-use Rattle.ifl_desc.specs.Ends.{DriverSees, DeviceSees, IsDriver, posted, room_of}
+use Rattle.ifl_desc.specs.History.{sent}
+use Rattle.ifl_desc.specs.Frames.{bytes_of, open_after, frames_of, IsWholeFrame}
+use Rattle.ifl_desc.specs.Ends.{DriverSees, DeviceSees, IsDriver, room_of}
 use Rattle.ifl_desc.specs.Calls.{Grew, Flushes, Credits, Meets}
 use Rattle.ifl_desc.proofs.AfterSteps.{grew_sent, grew_prefix, grew_other}
-use Rattle.ifl_desc.proofs.Closing.{prefix_trans}
 use Rattle.ifl_desc.proofs.Steps.{same_sent, sent_append}
-use Rattle.ifl_device.specs.Adapter.{bytes_of, captured, record_size}
-use Rattle.ifl_device.specs.Wire.{WireSees, left_in}
+use Rattle.ifl_device.specs.Adapter.{captured}
+use Rattle.ifl_device.specs.Wire.{WireSees}
 use Rattle.ifl_device.specs.Engine.{IsHeld}
 use Rattle.ifl_device.specs.Receive.{is_filled}
 use Rattle.ifl_device.proofs.Engines.{written_one}
-use Rattle.ifl_desc.proofs.Splitting.{frames_more, returned_open}
+use Rattle.ifl_desc.proofs.Splitting.{frames_more}
 use Rattle.ifl_desc.proofs.Framing.{open_append}
-use Rattle.ifl_rxq.specs.Clusters.{Posting, PostsSome, Frees}
-use Rattle.ifl_rxq.specs.FreeLists.{FreeSees, IsFreeList, GoesOn, Refills, Looks, Met, Rests, Holds, Settles, AreEmpty, IsCaughtUp, accounted, avail_of, delivered_of, filled_of, free_list_of, kept_by, kept_of, outstanding, settled, small_of}
+use Rattle.ifl_rxq.specs.Clusters.{Posting, Frees}
+use Rattle.ifl_rxq.specs.FreeLists.{FreeSees, IsFreeList, Refills, Looks, Met, Holds, Settles, accounted, avail_of, delivered_of, filled_of, free_list_of, kept_by, kept_of, outstanding, settled, small_of}
 use Rattle.ifl_rxq.proofs.Splits.{take_front, whole_open, filled_append, written_length, records, records_first}
 
 -- one more frame in the capture

@@ -1,20 +1,17 @@
 -- Arrivals, one after another.
-use Rattle.std.proofs.Common.{◌≡◌, ℕ, zero, suc, ◌+◌, ◌-◌, ◌%◌, ◌<◌, ◌≤◌, ◌⊎◌, inl, inr, Bool, true, false, cond, nat_eq, List, [], ◌∷◌, ◌++◌, length, map, take, sym, refl, ap, ◌∙◌, subst, arith, append-nil, append_assoc, length-append}
+use Rattle.std.proofs.Common.{◌≡◌, ℕ, zero, suc, ◌+◌, ◌<◌, ◌≤◌, inl, inr, Bool, true, cond, List, [], ◌∷◌, ◌++◌, length, map, take, sym, refl, ap, ◌∙◌, subst, arith, length-append}
 use Rattle.std.specs.List.{flat_map}
 use Rattle.ifl_base.specs.declared.ticket.Ticket.{Ticket}
 use Rattle.ifl_base.specs.declared.ticket.Stamp.{Stamp}
 use Rattle.ifl_pcap.specs.declared.frame.Frame.{Frame}
 use Rattle.ifl_pcap.specs.File.{record_of}
-use Rattle.ifl_pcap.proofs.Parts.{length-record_of}
 use Rattle.ifl_desc.specs.declared.desc.Desc.{Desc}
-use Rattle.ifl_desc.specs.declared.desc.Status.{Status}
-use Rattle.ifl_desc.specs.Frames.{IsWholeFrame}
-use Rattle.ifl_device.specs.Adapter.{captured, record_size}
-use Rattle.ifl_device.specs.Receive.{IsStored, AreFilled, is_filled, filled_status, needed}
+use Rattle.ifl_device.specs.Adapter.{captured}
+use Rattle.ifl_device.specs.Receive.{IsStored, is_filled, filled_status, needed}
 use Rattle.ifl_rxq.specs.declared.line.MissedLine.{MissedLine}
 use Rattle.ifl_rxq.specs.FreeLists.{filled_of}
 use Rattle.ifl_rxq.specs.Receive.{Ran, AreReceived, arrival, used_before}
-use Rattle.ifl_rxq.proofs.Splits.{records, records_first}
+use Rattle.ifl_rxq.proofs.Splits.{records}
 
 module _ (burst full : ℕ) where
   -- one more is stored

@@ -1,29 +1,24 @@
 -- One burst, and the end.
-use Rattle.std.proofs.Common.{◌≡◌, ℕ, zero, suc, ◌+◌, ◌-◌, ◌%◌, ◌<◌, ◌≤◌, ◌⊎◌, inl, inr, Bool, true, false, cond, min, List, [], ◌∷◌, ◌++◌, length, take, sym, refl, ap, ◌∙◌, subst, arith, append-nil, append_assoc, length-append}
-use mathlib.Core.List.{IsPrefix}
+use Rattle.std.proofs.Common.{◌≡◌, ℕ, ◌+◌, ◌-◌, ◌<◌, ◌≤◌, Bool, cond, min, List, [], ◌∷◌, ◌++◌, length, take, sym, refl, ap, ◌∙◌, subst, arith, append-nil, append_assoc, length-append}
 use Rattle.std.specs.List.{flat_map}
 use Rattle.ifl_base.specs.declared.limits.TheConstants.{PART}
 use Rattle.ifl_pcap.specs.declared.frame.Frame.{Frame}
 use Rattle.ifl_pcap.specs.File.{record_of}
 use Rattle.ifl_desc.specs.declared.desc.Desc.{Desc}
-use Rattle.ifl_desc.specs.declared.desc.Status.{Status}
-use Rattle.ifl_desc.specs.declared.history.Event.{Event}
 use Rattle.ifl_desc.specs.declared.history.Side.TheVariants.{Driver, Device}
-use Rattle.ifl_desc.specs.History.{sent, known}
+use Rattle.ifl_desc.specs.History.{sent}
 use Rattle.ifl_desc.specs.Frames.{open_after, frames_from, frames_of}
-use Rattle.ifl_desc.specs.Ends.{DriverSees, DeviceSees}
-use Rattle.ifl_desc.specs.Calls.{Meets}
-use Rattle.ifl_desc.proofs.Closing.{prefix_trans, no_less}
+use Rattle.ifl_desc.proofs.Closing.{no_less}
 use Rattle.ifl_desc.proofs.Splitting.{returned_open}
-use Rattle.ifl_device.specs.Receive.{RxSees, IsRx, Returns, Empties, AreUnused, filled_status, rx_returned}
+use Rattle.ifl_device.specs.Receive.{RxSees, IsRx, Empties, AreUnused, filled_status, rx_returned}
 use Rattle.ifl_rxq.specs.declared.line.MissedLine.{MissedLine}
-use Rattle.ifl_rxq.specs.FreeLists.{FreeSees, IsFreeList, Met, Delivers, Refills, GoesOn, accounted, delivered_of, filled_of, outstanding, settled}
+use Rattle.ifl_rxq.specs.FreeLists.{FreeSees, IsFreeList, Met, Delivers, Refills, GoesOn, accounted, delivered_of, filled_of, settled}
 use Rattle.ifl_rxq.specs.Receive.{AreReceived, Ran}
 use Rattle.ifl_rxq.specs.Worker.{HasArrived, IsReady, IsDone, full_for}
 use Rattle.ifl_rxq.proofs.Splits.{frames_both, filled_append, records}
 use Rattle.ifl_rxq.proofs.Runs.{ran_filled, ran_records, ran_received, records_take}
 use Rattle.ifl_rxq.proofs.Settling.{back_there, settled_length, settles_all, fewer, no_more}
-use Rattle.ifl_rxq.proofs.Bound.{refill_fills, met_buffers, met_returned, met_rung, sent_front, looked_prefix}
+use Rattle.ifl_rxq.proofs.Bound.{refill_fills, met_buffers, met_returned, met_rung, sent_front}
 
 -- as many clusters are accounted for as were taken, still
 pub owes_same : (a b : FreeSees) → GoesOn a b → a.pass.counts.taken ≡ accounted a → b.pass.counts.taken ≡ accounted b

@@ -1,14 +1,13 @@
 -- After a burst the list has settled all that the engine returned.
-use Rattle.std.proofs.Common.{◌≡◌, ℕ, zero, suc, ◌+◌, ◌-◌, ◌<◌, ◌≤◌, ◌⊎◌, inl, inr, Bool, cond, List, [], ◌∷◌, ◌++◌, length, map, take, drop, sym, refl, ap, ◌∙◌, subst, arith, append-nil, append_assoc, length-append}
+use Rattle.std.proofs.Common.{◌≡◌, ℕ, zero, suc, ◌+◌, ◌-◌, ◌<◌, ◌≤◌, ◌⊎◌, inl, inr, Bool, cond, List, [], ◌∷◌, ◌++◌, length, drop, sym, ap, ◌∙◌, subst, arith, append-nil, append_assoc, length-append}
 use Rattle.ifl_desc.specs.declared.desc.Desc.{Desc}
-use Rattle.ifl_desc.specs.declared.history.Side.TheVariants.{Driver, Device}
-use Rattle.ifl_desc.specs.History.{sent, known}
+use Rattle.ifl_desc.specs.declared.history.Side.TheVariants.{Device}
+use Rattle.ifl_desc.specs.History.{sent}
 use Rattle.ifl_desc.specs.Frames.{open_after, frames_of, IsWholeFrame}
-use Rattle.ifl_device.specs.Adapter.{captured, record_size}
 use Rattle.ifl_desc.proofs.Splitting.{frame_alone}
 use Rattle.ifl_desc.proofs.Framing.{open_append}
 use Rattle.ifl_rxq.specs.FreeLists.{FreeSees, IsFreeList, Delivers, IsCaughtUp, HasNoRoom, delivered_of, filled_of, settled}
-use Rattle.ifl_rxq.proofs.Splits.{frames_both, whole_open, whole_front, some_frames, filled_append, filled_few, records, records_append, records_first, written_length, take_front, take_beyond, take_drop, drop_some, same_rest, take_length, take_whole, two_fronts}
+use Rattle.ifl_rxq.proofs.Splits.{frames_both, whole_open, whole_front, some_frames, filled_append, filled_few, records, records_append, records_first, written_length, take_drop, take_length, two_fronts}
 
 module _ (b : FreeSees) (k : IsFreeList b) (real rest : List Desc) (sees : sent Device b.driver.seen ≡ real ++ rest) (ends : open_after 0 real ≡ 0) where
   abbrev list : List Desc

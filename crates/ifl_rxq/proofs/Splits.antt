@@ -1,5 +1,5 @@
 -- Lists of descriptors and their frames, of which some were filled.
-use Rattle.std.proofs.Common.{◌≡◌, ℕ, zero, suc, ◌+◌, ◌-◌, ◌<◌, ◌≤◌, Bool, true, false, cond, List, [], ◌∷◌, ◌++◌, length, map, take, drop, sym, refl, ap, ◌∙◌, subst, arith, append-nil, append_assoc, length-append}
+use Rattle.std.proofs.Common.{◌≡◌, ℕ, zero, suc, ◌+◌, ◌-◌, ◌<◌, ◌≤◌, Bool, true, false, cond, List, [], ◌∷◌, ◌++◌, length, map, take, drop, sym, refl, ap, ◌∙◌, arith, length-append}
 use Rattle.std.specs.List.{flat_map}
 use Rattle.std.proofs.lemmas.List.{map-append}
 use Rattle.ifl_pcap.specs.declared.frame.Frame.{Frame}
@@ -7,10 +7,9 @@ use Rattle.ifl_pcap.specs.File.{written, written_header, record_of}
 use Rattle.ifl_pcap.proofs.Parts.{length-record_of}
 use Rattle.ifl_desc.specs.declared.desc.Desc.{Desc}
 use Rattle.ifl_desc.specs.Frames.{open_after, frames_from, frames_of, IsWholeFrame}
-use Rattle.ifl_device.specs.Adapter.{bytes_of, captured, record_size}
+use Rattle.ifl_device.specs.Adapter.{captured, record_size}
 use Rattle.ifl_device.specs.Receive.{is_filled}
-use Rattle.ifl_desc.proofs.Splitting.{frames_append, no_tail, frame_alone}
-use Rattle.ifl_desc.proofs.Framing.{open_append}
+use Rattle.ifl_desc.proofs.Splitting.{frames_append, no_tail}
 use Rattle.ifl_device.proofs.Records.{header_length}
 use Rattle.ifl_device.proofs.Engines.{flat_more}
 use Rattle.ifl_rxq.specs.FreeLists.{filled_of}

@@ -1,14 +1,12 @@
 -- The first refill, and where the worker's loop ends.
-use Rattle.std.proofs.Common.{◌≡◌, ℕ, suc, ◌+◌, ◌-◌, ◌%◌, ◌<◌, ◌≤◌, min, List, [], ◌∷◌, ◌++◌, length, take, sym, refl, ap, ◌∙◌, subst, arith, append-nil}
-use Rattle.std.specs.List.{flat_map}
+use Rattle.std.proofs.Common.{◌≡◌, ℕ, ◌+◌, ◌-◌, ◌%◌, ◌<◌, min, List, [], sym, refl, ap, ◌∙◌, arith, append-nil}
 use Rattle.ifl_base.specs.declared.limits.TheConstants.{PART}
 use Rattle.ifl_pcap.specs.declared.frame.Frame.{Frame}
-use Rattle.ifl_desc.specs.declared.desc.Desc.{Desc}
 use Rattle.ifl_desc.specs.Frames.{open_after, frames_of}
 use Rattle.ifl_device.specs.Receive.{RxSees, rx_returned}
 use Rattle.ifl_rxq.specs.declared.line.MissedLine.{MissedLine}
 use Rattle.ifl_rxq.specs.FreeLists.{FreeSees, IsFreeList, Refills, accounted, settled}
-use Rattle.ifl_rxq.specs.Worker.{IsReady, full_for}
+use Rattle.ifl_rxq.specs.Worker.{IsReady}
 use Rattle.ifl_rxq.proofs.Bound.{refill_fills, next_burst}
 use Rattle.ifl_rxq.proofs.Serving.{owes_same}
 

@@ -1,6 +1,5 @@
 -- Several tries at frames, one after another.
-use Rattle.std.proofs.Common.{◌≡◌, ℕ, suc, ◌+◌, ◌-◌, ◌<◌, ◌≤◌, ◌⊎◌, Bool, true, false, List, [], ◌∷◌, ◌++◌, length, take, sym, refl, ap, ◌∙◌, subst, arith, append-nil, append_assoc, length-append}
-use mathlib.Core.List.{IsPrefix}
+use Rattle.std.proofs.Common.{◌≡◌, ℕ, ◌+◌, ◌<◌, ◌≤◌, ◌⊎◌, Bool, true, false, List, [], ◌∷◌, ◌++◌, length, take, sym, refl, ap, ◌∙◌, subst, arith, append-nil, append_assoc}
 use Rattle.std.specs.Bool.{OnTrue, OnFalse}
 use Rattle.ifl_desc.specs.declared.desc.Desc.{Desc}
 use Rattle.ifl_desc.specs.declared.history.Event.{Event}
@@ -13,7 +12,7 @@ use Rattle.ifl_desc.proofs.Splitting.{frame_alone}
 use Rattle.ifl_desc.proofs.Framing.{open_append}
 use Rattle.ifl_rxq.proofs.Splits.{frames_both, whole_open}
 use Rattle.ifl_device.specs.Engine.{IsHeld}
-use Rattle.ifl_rxq.specs.FreeLists.{FreeSees, IsFreeList, GoesOn, Looks, Rests, Holds, Settles, TriesOne, Delivers, IsCaughtUp, HasNoRoom, accounted, free_list_of, kept_by, kept_of, settled}
+use Rattle.ifl_rxq.specs.FreeLists.{FreeSees, IsFreeList, GoesOn, Looks, Rests, Holds, Settles, TriesOne, Delivers, IsCaughtUp, HasNoRoom, free_list_of, kept_by, kept_of, settled}
 use Rattle.ifl_rxq.proofs.Lists.{hold_list, hold_does, kept_append}
 
 pub goes_both : (a m b : FreeSees) → GoesOn a m → GoesOn m b → GoesOn a b

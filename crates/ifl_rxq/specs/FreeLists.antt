@@ -1,5 +1,5 @@
 -- What contracts see of a free list, and what its calls do.
-use Rattle.std.specs.Prelude.{◌≡◌, ℕ, ◌+◌, ◌-◌, ◌<◌, ◌≤◌, ◌⊎◌, min, Bool, true, false, cond, nat_le, List, [], ◌∷◌, ◌++◌, length, map, take}
+use Rattle.std.specs.Prelude.{◌≡◌, ℕ, ◌+◌, ◌-◌, ◌<◌, ◌≤◌, ◌⊎◌, min, true, cond, nat_le, List, [], ◌∷◌, ◌++◌, length, map, take}
 use mathlib.Core.List.{IsPrefix}
 use Rattle.atomic_table.specs.Seated.{TableId}
 use Rattle.ifl_base.specs.declared.limits.TheConstants.{PART}
@@ -11,10 +11,10 @@ use Rattle.ifl_desc.specs.declared.desc.Desc.{Desc}
 use Rattle.ifl_desc.specs.declared.history.Side.TheVariants.{Driver, Device}
 use Rattle.ifl_desc.specs.declared.history.Event.TheVariants.{Sent}
 use Rattle.ifl_desc.specs.History.{sent, known, looks}
-use Rattle.ifl_desc.specs.Frames.{open_after, frames_of, IsWholeFrame}
+use Rattle.ifl_desc.specs.Frames.{bytes_of, open_after, frames_of, IsWholeFrame}
 use Rattle.ifl_desc.specs.Ends.{DriverSees, DeviceSees, IsDriver, posted}
 use Rattle.ifl_desc.specs.Calls.{Grew, Meets}
-use Rattle.ifl_device.specs.Adapter.{bytes_of, captured, record_size}
+use Rattle.ifl_device.specs.Adapter.{captured, record_size}
 use Rattle.ifl_device.specs.Wire.{WireSees, left_in}
 use Rattle.ifl_device.specs.Engine.{IsHeld}
 use Rattle.ifl_device.specs.Receive.{is_filled}

@@ -5,10 +5,8 @@ use Rattle.ifl_pcap.specs.declared.frame.Frame.{Frame}
 use Rattle.ifl_desc.specs.declared.desc.Desc.{Desc}
 use Rattle.ifl_desc.specs.declared.history.Side.TheVariants.{Driver}
 use Rattle.ifl_desc.specs.History.{sent}
-use Rattle.ifl_desc.specs.Frames.{frames_of}
 use Rattle.ifl_device.specs.Receive.{RxSees, IsStored, Returns, free_of, needed, rx_returned}
 use Rattle.ifl_rxq.specs.declared.line.MissedLine.{MissedLine}
-use Rattle.ifl_rxq.specs.FreeLists.{FreeSees, outstanding, delivered_of}
 
 -- the ticket of arrival k
 abbrev pub arrival : ℕ → Ticket

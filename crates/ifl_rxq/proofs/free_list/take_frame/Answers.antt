@@ -1,4 +1,4 @@
-use Rattle.std.proofs.Common.{◌≡◌, ℕ, suc, ◌+◌, ◌<◌, ◌∙◌, ap, sym, subst, arith, refl, false, List, [], ◌++◌, length, take}
+use Rattle.std.proofs.Common.{◌≡◌, ℕ, suc, ◌∙◌, ap, sym, subst, arith, refl, false, List, [], length, take}
 use lib.ListN.{get_elem?}
 use Rattle.ifl_desc.specs.declared.desc.Desc.{Desc}
 use Rattle.ifl_desc.specs.declared.history.Side.TheVariants.{Driver, Device}

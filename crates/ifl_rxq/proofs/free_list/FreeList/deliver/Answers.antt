@@ -1,11 +1,10 @@
-use Rattle.std.proofs.Common.{◌≡◌, ◌+◌, ◌-◌, ◌<◌, ◌≤◌, ◌∙◌, ap, sym, refl, subst, arith, List, [], ◌∷◌, ◌++◌, length, min, ℕ}
+use Rattle.std.proofs.Common.{◌≡◌, ◌+◌, ◌<◌, ◌≤◌, ◌∙◌, ap, sym, refl, subst, arith, List, ◌++◌, length, ℕ}
 use Rattle.ifl_desc.specs.declared.desc.Desc.{Desc}
-use Rattle.ifl_desc.specs.Ends.{DriverSees, DeviceSees}
-use Rattle.ifl_rxq.specs.FreeLists.{FreeSees, IsFreeList, Looks, Met, Refills, Delivers, Holds, Settles, free_list_of}
+use Rattle.ifl_rxq.specs.FreeLists.{FreeSees, IsFreeList, Settles, free_list_of}
 use Rattle.std.proofs.Common.{true, false, Bool, cond, nat_le, ◌^◌}
 use Rattle.ifl_pcap.specs.File.{record_of}
-use Rattle.ifl_desc.specs.Frames.{IsWholeFrame}
-use Rattle.ifl_device.specs.Adapter.{bytes_of, captured}
+use Rattle.ifl_desc.specs.Frames.{bytes_of, IsWholeFrame}
+use Rattle.ifl_device.specs.Adapter.{captured}
 use Rattle.ifl_device.specs.Receive.{is_filled}
 use Rattle.ifl_rxq.specs.FreeLists.{kept_by}
 use Rattle.ifl_rxq.proofs.Lists.{settle_list, settle_does, few_delivered, few_copied}

@@ -1,7 +1,6 @@
-use Rattle.std.proofs.Common.{◌≡◌, ◌+◌, ◌-◌, ◌<◌, ◌≤◌, ◌∙◌, ap, sym, refl, subst, arith, List, [], ◌∷◌, ◌++◌, length, min, ℕ}
-use Rattle.ifl_desc.specs.declared.desc.Desc.{Desc}
-use Rattle.ifl_desc.specs.Ends.{DriverSees, DeviceSees}
-use Rattle.ifl_rxq.specs.FreeLists.{FreeSees, IsFreeList, Looks, Met, Refills, Delivers, Holds, Settles, free_list_of}
+use Rattle.std.proofs.Common.{◌≡◌, ◌∙◌, ap, sym, subst, arith, [], length}
+use Rattle.ifl_desc.specs.Ends.{DriverSees}
+use Rattle.ifl_rxq.specs.FreeLists.{FreeSees, IsFreeList, Holds, free_list_of}
 use Rattle.std.proofs.Common.{rules, true, false, eq-eqb}
 use Rattle.std.specs.Prelude.{vec_len}
 use Rattle.std.specs.Bool.{OnTrue, OnFalse}
