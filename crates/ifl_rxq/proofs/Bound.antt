@@ -55,7 +55,7 @@ used_inside burst next i used e low high = let m = inside_burst burst next i e l
 pub used_first : (burst next used : ℕ) → next % burst ≡ 0 → used_before burst next used ≡ 0
 used_first burst next used e = ap (λ (z : ℕ). cond (nat_eq z 0) 0 used) e
 
-take_one_more : (l : List Frame) (i : ℕ) (f : Frame) → i < length l → f ≡ get_or l i f → take (suc i) l ≡ take i l ++ f ∷ []
+pub take_one_more : (l : List Frame) (i : ℕ) (f : Frame) → i < length l → f ≡ get_or l i f → take (suc i) l ≡ take i l ++ f ∷ []
 take_one_more [] i f h e = absurd (omega arith)
 take_one_more (x ∷ l) zero f h e = ap (λ (z : Frame). z ∷ []) (sym e)
 take_one_more (x ∷ l) (suc i) f h e = ap (λ (z : List Frame). x ∷ z) (take_one_more l i f (omega arith) e)
