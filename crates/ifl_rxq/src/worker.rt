@@ -126,5 +126,5 @@ fn serve_burst<R: DescRing, W: Wait>(
     arrive_burst(engine, input, burst, next, end, missed);
     list.meet(engine);
     list.rx_eof(rt, burst);
-    list.refill(rt, u32::MAX);
+    list.refill(rt, u32::MAX); // in time for the next burst
 }
