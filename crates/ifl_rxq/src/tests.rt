@@ -6,7 +6,7 @@ use ifl_base::{NoMemory, Stamp};
 use ifl_desc::{ClosedList, DescRing};
 use ifl_generation::GenerationRing;
 use ifl_legacy::LegacyRing;
-use ifl_pcap::{Capture, CaptureBuilder, Frame, write_capture};
+use ifl_pcap::{Capture, CaptureBuilder, Frame};
 use ifl_writeback::WritebackRing;
 use std::alloc::Global;
 use std::process::Abort;
@@ -15,6 +15,11 @@ use std::test::*;
 
 /// Ten frames of 60 bytes.
 const TEN: [usize; 10] = [60, 60, 60, 60, 60, 60, 60, 60, 60, 60];
+
+/// The header of a capture's file.
+const HEADER: [u8; 24] = [
+    0xd4, 0xc3, 0xb2, 0xa1, 2, 0, 4, 0, 0, 0, 0, 0, 0, 0, 0, 0, 0, 0, 4, 0, 1, 0, 0, 0,
+];
 
 /// Eight slots, and more clusters than they hold.
 const SMALL: RxSizes = RxSizes {
@@ -59,13 +64,8 @@ fn some_bytes(alloc: Global) -> Result<Vec<u8>, NoMemory> {
     Ok(bytes)
 }
 
-/// A capture of frames of these lengths, without those that have a line. The seconds of a frame's stamp are its number.
-fn capture_of<A: Abort>(
-    rt: &A,
-    alloc: Global,
-    lengths: &[usize],
-    missed: &[MissedLine],
-) -> Result<Capture, NoMemory> {
+/// A capture of frames of these lengths. The seconds of a frame's stamp are its number.
+fn capture_of<A: Abort>(rt: &A, alloc: Global, lengths: &[usize]) -> Result<Capture, NoMemory> {
     let bytes = some_bytes(alloc)?;
     let mut builder = CaptureBuilder::new(alloc);
     let mut index = 0u32;
@@ -77,12 +77,44 @@ fn capture_of<A: Abort>(
             orig: 70_000,
         };
         let (frame, _) = bytes.split_at(*len);
-        if !is_missed(missed, index) {
-            builder.push(&Frame::new(stamp, frame))?;
-        }
+        builder.push(&Frame::new(stamp, frame))?;
         index = index.wrapping_add(1);
     }
     Ok(builder.finish())
+}
+
+/// Appends a number of four bytes, the lowest first.
+fn put_number(file: &mut Vec<u8>, n: u32) -> Result<(), NoMemory> {
+    file.push((n % 256) as u8)?;
+    file.push((n / 256 % 256) as u8)?;
+    file.push((n / 65_536 % 256) as u8)?;
+    file.push((n / 16_777_216 % 256) as u8)?;
+    Ok(())
+}
+
+/// The file of those frames that have no line.
+fn file_of<A: Abort>(
+    rt: &A,
+    alloc: Global,
+    lengths: &[usize],
+    missed: &[MissedLine],
+) -> Result<Vec<u8>, NoMemory> {
+    let bytes = some_bytes(alloc)?;
+    let mut file = Vec::from_slice(alloc, &HEADER)?;
+    let mut index = 0u32;
+    for len in lengths {
+        assert!(rt; *len <= 65_536 && *len <= bytes.len());
+        if !is_missed(missed, index) {
+            put_number(&mut file, index)?;
+            put_number(&mut file, 7)?;
+            put_number(&mut file, *len as u32)?;
+            put_number(&mut file, 70_000)?;
+            let (frame, _) = bytes.split_at(*len);
+            file.extend_from_slice(frame)?;
+        }
+        index = index.wrapping_add(1);
+    }
+    Ok(file)
 }
 
 /// Runs a case over one kind of ring.
@@ -91,15 +123,16 @@ fn check<R: DescRing + 'static, W: Wait + Abort>(
     alloc: Global,
     case: &Case<'_>,
 ) -> Result<(), NoMemory> {
-    let input = capture_of(rt, alloc, case.lengths, &[])?;
+    let input = capture_of(rt, alloc, case.lengths)?;
     let arrived = input.len();
     assert!(rt; arrived <= 1_000_000);
     let left = receive_capture::<R, W>(rt, alloc, case.sizes, case.rules, &input)?;
-    let stored = capture_of(rt, alloc, case.lengths, case.missed)?;
+    let file = file_of(rt, alloc, case.lengths, case.missed)?;
+    let stored = case.lengths.len().saturating_sub(case.missed.len());
     assert!(rt; left.missed.as_slice() == case.missed);
-    assert!(rt; left.host.as_slice() == write_capture(alloc, &stored)?.as_slice());
+    assert!(rt; left.host.as_slice() == file.as_slice());
     assert!(rt; left.counters.arrived == arrived as u64);
-    assert!(rt; left.counters.delivered == stored.len() as u64);
+    assert!(rt; left.counters.delivered == stored as u64);
     assert!(rt; left.counters.missed == case.missed.len() as u64);
     assert!(rt; left.counters.copied == case.copied);
     assert!(rt; left.desc.left().is_empty());
