@@ -90,15 +90,8 @@ module _ (a : FreeSees) (k : IsFreeList a) where
     accounts = accounts;
   }
 
-  -- how many may be posted
-  pub room_enough : length a.held ≤ room_of a.driver
-  room_enough = let f = k.few in let w = k.lawful.room in let s = ap (λ (z : TableId). z.slots) k.own in omega arith
-
   pub avail_is : room_of a.driver - length a.held ≡ avail_of a
   avail_is = let f = k.few in let s = ap (λ (z : TableId). z.slots) k.own in omega arith
-
-  pub held_few : length a.held < a.ring.slots
-  held_few = let f = k.few in omega arith
 
   module _ (budget n : ℕ) (d e : DriverSees) (pass : Known) (left : ℕ) (p : Posting a.pool.size (min budget (avail_of a)) n a.driver a.pass a.kept d pass left) (f : Flushes d e) (lawful : IsDriver e) where
     abbrev refilled : FreeSees
@@ -109,9 +102,6 @@ module _ (a : FreeSees) (k : IsFreeList a) where
 
     d_is : d ≡ record (a.driver) { pending = posts }
     d_is = p.some.posts.3
-
-    seen_is : d.seen ≡ a.driver.seen
-    seen_is = ap (λ (z : DriverSees). z.seen) d_is
 
     grew : Grew Driver a.driver.seen e.seen (Sent Driver posts)
     grew = subst (λ (z : DriverSees). Grew Driver z.seen e.seen (Sent Driver z.pending)) d_is f.0

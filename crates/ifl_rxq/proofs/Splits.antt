@@ -1,5 +1,5 @@
 -- Lists of descriptors and their frames, of which some were filled.
-use Rattle.std.proofs.Common.{◌≡◌, ℕ, zero, suc, ◌+◌, ◌-◌, ◌<◌, ◌≤◌, Bool, true, false, cond, List, [], ◌∷◌, ◌++◌, length, map, take, drop, sym, refl, ap, ◌∙◌, arith, length-append}
+use Rattle.std.proofs.Common.{◌≡◌, ℕ, zero, suc, ◌+◌, ◌<◌, ◌≤◌, Bool, true, false, cond, List, [], ◌∷◌, ◌++◌, length, map, take, drop, sym, refl, ap, ◌∙◌, arith, length-append}
 use Rattle.std.specs.List.{flat_map}
 use Rattle.std.proofs.lemmas.List.{map-append}
 use Rattle.ifl_pcap.specs.declared.frame.Frame.{Frame}
@@ -68,14 +68,6 @@ records_append xs ys = ap (λ (z : List Frame). length (flat_map record_of z)) (
 pub records_first : (f : List Desc) (fs : List (List Desc)) → records (f ∷ fs) ≡ record_size f + records fs
 records_first f fs = let a = length-append (record_of (captured f)) (flat_map record_of (map captured fs)) in let l = length-record_of (captured f) in omega arith
 
-pub filled_records : (fs : List (List Desc)) → records (filled_of fs) ≤ records fs
-filled_records [] = omega arith
-filled_records (f ∷ fs) = by_fill (is_filled f) (filled_records fs)
-  where
-    by_fill : (b : Bool) → records (filled_of fs) ≤ records fs → records (cond b (f ∷ filled_of fs) (filled_of fs)) ≤ records (f ∷ fs)
-    by_fill true e = let a = records_first f fs in let c = records_first f (filled_of fs) in omega arith
-    by_fill false e = let a = records_first f fs in omega arith
-
 -- the length of a capture
 pub written_length : (fs : List (List Desc)) → length (written (map captured fs)) ≡ 24 + records fs
 written_length fs = let h = header_length in let a = length-append written_header (flat_map record_of (map captured fs)) in let b = length-append written_header [] in omega arith
@@ -85,25 +77,10 @@ take_front zero xs ys h = refl
 take_front (suc n) [] ys h = absurd (omega arith)
 take_front (suc n) (x ∷ xs) ys h = ap (λ (z : List Desc). x ∷ z) (take_front n xs ys (omega arith))
 
-pub take_beyond : (n : ℕ) (xs ys : List Desc) → length xs ≤ n → take n (xs ++ ys) ≡ xs ++ take (n - length xs) ys
-take_beyond n [] ys h = ap (λ (z : ℕ). take z ys) (let g : n ≡ n - 0 = omega arith in g)
-take_beyond zero (x ∷ xs) ys h = absurd (omega arith)
-take_beyond (suc n) (x ∷ xs) ys h = ap (λ (z : List Desc). x ∷ z) (take_beyond n xs ys (omega arith) ∙ ap (λ (z : ℕ). xs ++ take z ys) (let g : n - length xs ≡ suc n - suc (length xs) = omega arith in g))
-
 pub take_drop : (n : ℕ) (xs : List Desc) → xs ≡ take n xs ++ drop n xs
 take_drop zero xs = refl
 take_drop (suc n) [] = refl
 take_drop (suc n) (x ∷ xs) = ap (λ (z : List Desc). x ∷ z) (take_drop n xs)
-
-pub drop_some : (n : ℕ) (xs : List Desc) → n < length xs → (y : Desc) × (ys : List Desc) × (drop n xs ≡ y ∷ ys)
-drop_some n [] h = absurd (omega arith)
-drop_some zero (x ∷ xs) h = (x, xs, refl)
-drop_some (suc n) (x ∷ xs) h = drop_some n xs (omega arith)
-
--- what follows on the same beginning is the same
-pub same_rest : (xs ys zs : List Desc) → xs ++ ys ≡ xs ++ zs → ys ≡ zs
-same_rest [] ys zs e = e
-same_rest (x ∷ xs) ys zs e = same_rest xs ys zs (ap (drop 1) e)
 
 pub take_length : (n : ℕ) (xs : List Desc) → n ≤ length xs → length (take n xs) ≡ n
 take_length zero xs h = refl
