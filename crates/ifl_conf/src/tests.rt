@@ -260,7 +260,8 @@ send --wire w --order o f f => send
 send --wire w --order w f g => names
 send --wire w --order g f g => names
 send --in i --host h --wire w --order o f => refused
-send --ring --wire w --order o f => refused
+send --ring --wire w --order o f => send
+send --ring=1 --wire w --order o f => refused
 gen --seed 1 --senders 1 --frames 2 --wire w --order o => refused
 check --wire w --order o f => refused";
 
