@@ -1,0 +1,6 @@
+pub mod Ranges
+pub mod States
+pub mod Bytes
+pub mod Files
+pub mod Sizes
+pub mod Records

@@ -1,0 +1,40 @@
+-- The frames of a sender fit in records, so that their file is read as them.
+use Rattle.std.proofs.Common.{ℕ, zero, suc, ◌+◌, ◌/◌, ◌^◌, ◌<◌, ◌≤◌, map, arith}
+use Rattle.std.specs.List.{range_with_len, AllByRecursion}
+use Rattle.std.proofs.lemmas.Nat.{mod_below}
+use Rattle.ifl_pcap.specs.File.{Fits, IsFile, written}
+use Rattle.ifl_pcap.proofs.Written.{IsFile-written}
+use Rattle.ifl_gen.specs.declared.traffic.Traffic.{Traffic}
+use Rattle.ifl_gen.specs.States.{after_steps, first_state}
+use Rattle.ifl_gen.specs.Frames.{length_by, frame_by, frame_of, captured}
+use Rattle.ifl_gen.proofs.Bytes.{length-bytes_by}
+
+pub length_by-least : (x : ℕ) → 60 ≤ length_by x
+unfolding length_by
+length_by-least x = omega arith
+
+pub length_by-most : (x : ℕ) → length_by x ≤ 1514
+unfolding length_by
+length_by-most x = omega (arith, mod_below (x / 2 ^ 33) 1455 (omega arith))
+
+Fits-frame_by : (sender index x : ℕ) → sender < 2 ^ 32 → index < 2 ^ 32 → Fits (frame_by sender index x)
+Fits-frame_by sender index x s i = record {
+  sec = i;
+  usec = s;
+  orig = omega (arith, length_by-most x);
+  bytes = omega (arith, length_by-most x, length-bytes_by x (length_by x));
+}
+
+pub Fits-frame_of : (seed sender index : ℕ) → sender < 2 ^ 32 → index < 2 ^ 32 → Fits (frame_of seed sender index)
+unfolding frame_of
+Fits-frame_of seed sender index s i = Fits-frame_by sender index (after_steps (index + 1) (first_state seed sender)) s i
+
+Fits-map-frame_of : (seed sender from n : ℕ) → sender < 2 ^ 32 → from + n ≤ 2 ^ 32 → AllByRecursion Fits (map (frame_of seed sender) (range_with_len from n))
+Fits-map-frame_of seed sender from zero s i = tt
+Fits-map-frame_of seed sender from (suc n) s i = (Fits-frame_of seed sender from s (omega arith), Fits-map-frame_of seed sender (from + 1) n s (omega arith))
+
+pub Fits-captured : (t : Traffic) (sender : ℕ) → sender < 2 ^ 32 → t.frames < 2 ^ 32 → AllByRecursion Fits (captured t sender)
+Fits-captured t sender s f = Fits-map-frame_of t.seed sender 0 t.frames s (omega arith)
+
+pub IsFile-captured : (t : Traffic) (sender : ℕ) → sender < 2 ^ 32 → t.frames < 2 ^ 32 → IsFile (written (captured t sender)) (captured t sender)
+IsFile-captured t sender s f = IsFile-written (captured t sender) (Fits-captured t sender s f)
