@@ -11,7 +11,7 @@ use Rattle.ifl_gen.proofs.Ranges.{range_with_len-add, map-range_with_len-repeats
 pub length-bytes_by : (x len : ℕ) → length (bytes_by x len) ≡ len
 length-bytes_by x len = length-map-range_with_len (byte_by x) 0 len
 
-byte_by-repeats : (x q i : ℕ) → byte_by x (256 * q + i) ≡ byte_by x i
+pub byte_by-repeats : (x q i : ℕ) → byte_by x (256 * q + i) ≡ byte_by x i
 unfolding byte_by
 byte_by-repeats x q i =
     let eights : 256 * q + i ≡ 8 * (32 * q) + i = omega arith in

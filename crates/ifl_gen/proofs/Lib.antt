@@ -4,3 +4,4 @@ pub mod Bytes
 pub mod Files
 pub mod Sizes
 pub mod Records
+pub mod Limits

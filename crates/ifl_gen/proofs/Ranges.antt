@@ -1,6 +1,7 @@
 -- Lists that a function makes of numbers in a row.
-use Rattle.std.proofs.Common.{◌≡◌, ℕ, zero, suc, ◌+◌, ◌*◌, List, ◌∷◌, ◌++◌, map, length, refl, ap, ◌∙◌, arith}
-use Rattle.std.specs.List.{range_with_len, sum_by}
+use Rattle.std.proofs.Common.{◌≡◌, ℕ, zero, suc, ◌+◌, ◌*◌, List, ◌∷◌, ◌++◌, map, length, ◌<◌, refl, sym, ap, subst, ◌∙◌, arith}
+use Rattle.std.specs.List.{range_with_len, sum_by, All}
+use Rattle.std.proofs.lemmas.List.FromFn.{length-map-range_with_len, get_or-map-range_with_len}
 use Rattle.std.proofs.lemmas.List.Sums.{sum_by-cons}
 
 pub range_with_len-add : (a m n : ℕ) → range_with_len a (m + n) ≡ range_with_len a m ++ range_with_len (a + m) n
@@ -27,3 +28,9 @@ sum_by-length-same g long a zero h = omega arith
 sum_by-length-same g long a (suc n) h =
     let more : suc n * long ≡ long + n * long = grind arith in
     omega (arith, more, h a, sum_by-cons (λ xs. length xs) (g a) (map g (range_with_len (a + 1) n)), sum_by-length-same g long (a + 1) n h)
+
+-- what holds of each that is made
+pub All-map-range_with_len : {X : Type 0} (P : X → Type 0) (f : ℕ → X) (n : ℕ) → ((i : ℕ) → i < n → P (f i)) → All P (map f (range_with_len 0 n))
+All-map-range_with_len P f n h k d lt =
+    let below : k < n = omega (arith, lt, length-map-range_with_len f 0 n) in
+    subst P (sym (get_or-map-range_with_len f 0 n k k d below (omega arith))) (h k below)
