@@ -23,5 +23,5 @@ MayTurnAway terms away.NoClusters = terms.drops ≡ true
 MayTurnAway terms (away.NoBuffers w) = terms.drops ≡ true
 
 pub record AreAllowed (terms : Terms) (accepted : List (Line Fate)) (turned : List (Line Away)) : Type 0 where
-  pub accepted : All (λ l. MayBefall terms l.what) accepted
-  pub away : All (λ l. MayTurnAway terms l.what) turned
+  pub fates : All (λ l. MayBefall terms l.what) accepted
+  pub reasons : All (λ l. MayTurnAway terms l.what) turned

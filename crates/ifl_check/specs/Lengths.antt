@@ -37,5 +37,5 @@ abbrev pub SuitsFrame : {T : Type 0} → (Terms → ℕ → T → Type 0) → Te
 SuitsFrame Suits terms files l = IfSome (frame_at files l.sender l.index) (λ f. Suits terms (length f.bytes) l.what)
 
 pub record LengthsAgree (terms : Terms) (files : List (List Frame)) (accepted : List (Line Fate)) (turned : List (Line Away)) : Type 0 where
-  pub accepted : All (SuitsFrame SuitsFate terms files) accepted
-  pub away : All (SuitsFrame SuitsAway terms files) turned
+  pub fates : All (SuitsFrame SuitsFate terms files) accepted
+  pub reasons : All (SuitsFrame SuitsAway terms files) turned

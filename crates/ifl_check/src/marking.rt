@@ -1,5 +1,5 @@
-ghost use Rattle.std.specs.Prelude.{◌≡◌, ◌<◌, ◌≤◌, ◌+◌, ◌⊎◌, true, false, All, ℕ, length, IfOk, IfSome, IfNone, slice_index_or};
-ghost use Rattle.std.specs.List.{count_by, sum_by, Any};
+ghost use Rattle.std.specs.Prelude.{◌≡◌, ◌<◌, ◌≤◌, ◌+◌, ◌⊎◌, nat_eq, true, false, All, ℕ, length, IfOk, IfSome, IfNone, slice_index_or};
+ghost use Rattle.std.specs.List.{count_by, sum_by, list_all, Any};
 ghost use Rattle.ifl_check.specs.Files.{each_frames, IsRecordAt};
 ghost use Rattle.ifl_check.specs.EachOnce.{is_named, EachOnce};
 ghost use Rattle.ifl_check.specs.Places.{place, Counts};
@@ -29,7 +29,13 @@ pub(crate) fn each_once(
     if !mark(captures, &starts, &mut marks, &order.away) {
         return Ok(false);
     }
-    Ok(marks.iter().all(|mark| *mark == 1))
+    Ok(are_ones(&marks))
+}
+
+fn are_ones(marks: &[u8]) -> bool
+    ensures { result ≡ list_all (λ m. nat_eq m 1) marks.now }
+{
+    marks.iter().all(|mark| *mark == 1)
 }
 
 /// Where the first record of each file stands among all records, and how many there are.

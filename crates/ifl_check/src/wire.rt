@@ -1,4 +1,4 @@
-ghost use Rattle.std.specs.Prelude.{◌≡◌, ◌≢◌, ◌++◌, true, false, ℕ, List, IfSome, IfNone};
+ghost use Rattle.std.specs.Prelude.{◌≡◌, ◌≢◌, ◌++◌, ◌%◌, true, false, ℕ, List, IfSome, IfNone};
 ghost use Rattle.std.specs.List.{flat_map};
 ghost use Rattle.ifl_pcap.specs.declared.form.Order.TheVariants.{Little};
 ghost use Rattle.ifl_pcap.specs.Numbers.{spelled_in};
@@ -61,9 +61,16 @@ fn behind_record<'a>(text: &'a [u8], frame: &Frame<'_>) -> Option<&'a [u8]>
     let stamp = frame.stamp();
     let rest = behind_number(text, stamp.sec)?;
     let rest = behind_number(rest, stamp.usec)?;
-    let rest = behind_number(rest, frame.len() as u32)?;
+    let rest = behind_number(rest, low_bits(frame.len()))?;
     let rest = behind_number(rest, stamp.orig)?;
     behind(rest, frame.bytes())
+}
+
+/// The low 32 bits of a frame's length, which are all of it.
+fn low_bits(len: usize) -> u32
+    ensures { result ≡ len % 4294967296 }
+{
+    (len % 4_294_967_296) as u32
 }
 
 /// What stands behind a number's four bytes.

@@ -1,0 +1,63 @@
+-- Texts with the same front, and what stands behind it.
+use Rattle.std.proofs.Common.{◌≡◌, ◌≢◌, ℕ, ◌+◌, ◌^◌, ◌<◌, ◌≤◌, true, false, List, [], ◌∷◌, ◌++◌, length, get_or, take, sym, refl, ap, ◌∙◌, subst, arith}
+use Rattle.std.specs.Prelude.{decimal}
+use Rattle.std.specs.Str.{bytes_eq}
+use Rattle.std.specs.Str.Parse.{AllDigits}
+use Rattle.std.proofs.Math.Seq.{take-append_seam}
+use Rattle.std.proofs.lemmas.Fmt.{decimal_is_IsNumeral, decimal_injective}
+use Rattle.std.proofs.lemmas.List.{append_cancel_left}
+use Rattle.std.proofs.lemmas.List.Prefix.{front_fits}
+use Rattle.std.proofs.lemmas.Slice.Eq.{bytes_eq-Decides}
+use Rattle.std.proofs.lemmas.Str.Parse.{digit_from_value}
+use mathlib.Core.List.{append_assoc}
+use Rattle.ifl_check.specs.Parts.{Lacks}
+
+pub no_front : (text front : List ℕ) → bytes_eq (take (length front) text) front ≡ false → (rest : List ℕ) → text ≢ front ++ rest
+no_front text front e rest is =
+    let t : bytes_eq (take (length front) text) front ≡ true = (bytes_eq-Decides (take (length front) text) front).1 (ap (take (length front)) is ∙ take-append_seam front rest) in
+    let f : true ≡ false = sym t ∙ e in absurd cc
+
+pub too_short : (text front rest : List ℕ) → length text < length front → text ≢ front ++ rest
+too_short text front rest l is = absurd (omega (arith, l, front_fits text front rest is))
+
+-- a front, and then what does not begin the rest
+pub behind_front : (text a b rest : List ℕ) → text ≡ a ++ rest → ((more : List ℕ) → rest ≢ b ++ more) → (more : List ℕ) → text ≢ (a ++ b) ++ more
+behind_front text a b rest is never more e = never more (append_cancel_left a rest (b ++ more) (sym is ∙ e ∙ append_assoc a b more))
+
+-- ---- the first of some bytes
+
+pub lacks-behind : (b : ℕ) (xs ys : List ℕ) → Lacks b (xs ++ (b ∷ ys)) → ⊥
+lacks-behind b [] ys l = l.0 refl
+lacks-behind b (x ∷ xs) ys l = lacks-behind b xs ys l.1
+
+head : (a b : ℕ) (xs ys : List ℕ) → a ∷ xs ≡ b ∷ ys → a ≡ b
+head a b xs ys e = ap (λ (z : List ℕ). get_or z 0 0) e
+
+tail : (a b : ℕ) (xs ys : List ℕ) → a ∷ xs ≡ b ∷ ys → xs ≡ ys
+tail a b xs ys e = cc
+
+pub cut-same : (b : ℕ) (xs ys us vs : List ℕ) → Lacks b xs → Lacks b us → xs ++ (b ∷ ys) ≡ us ++ (b ∷ vs) → (xs ≡ us) × (ys ≡ vs)
+cut-same b [] ys [] vs l m e = (refl, tail b b ys vs e)
+cut-same b [] ys (u ∷ us) vs l m e = absurd (m.0 (sym (head b u ys (us ++ (b ∷ vs)) e)))
+cut-same b (x ∷ xs) ys [] vs l m e = absurd (l.0 (head x b (xs ++ (b ∷ ys)) vs e))
+cut-same b (x ∷ xs) ys (u ∷ us) vs l m e = let h = head x u (xs ++ (b ∷ ys)) (us ++ (b ∷ vs)) e in
+    let t = cut-same b xs ys us vs l.1 m.1 (tail x u (xs ++ (b ∷ ys)) (us ++ (b ∷ vs)) e) in (λ i. h i ∷ t.0 i, t.1)
+
+pub not_behind : (b : ℕ) (text xs ys : List ℕ) → Lacks b text → text ≢ xs ++ (b ∷ ys)
+not_behind b text xs ys l e = lacks-behind b xs ys (subst (Lacks b) e l)
+
+pub lacks-append : (b : ℕ) (xs ys : List ℕ) → Lacks b xs → Lacks b ys → Lacks b (xs ++ ys)
+lacks-append b [] ys l m = m
+lacks-append b (x ∷ xs) ys l m = (l.0, lacks-append b xs ys l.1 m)
+
+lacks-digits : (b : ℕ) (ds : List ℕ) → b < 48 → AllDigits 10 ds → Lacks b ds
+lacks-digits b [] l h = tt
+lacks-digits b (d ∷ ds) l h = let r = digit_from_value d h.0 in (λ e. absurd (let s = r.0 in omega arith), lacks-digits b ds l h.1)
+
+pub lacks-decimal : (b n : ℕ) → b < 48 → n < 2 ^ 64 → Lacks b (decimal n)
+lacks-decimal b n l h = lacks-digits b (decimal n) l (decimal_is_IsNumeral n h).0.1
+
+-- numbers before a byte that is no digit
+pub number-same : (b m n : ℕ) (ys vs : List ℕ) → b < 48 → m < 2 ^ 64 → n < 2 ^ 64 → decimal m ++ (b ∷ ys) ≡ decimal n ++ (b ∷ vs) → (m ≡ n) × (ys ≡ vs)
+number-same b m n ys vs l f g e = let t = cut-same b (decimal m) ys (decimal n) vs (lacks-decimal b m l f) (lacks-decimal b n l g) e in
+    (decimal_injective m n f g t.0, t.1)

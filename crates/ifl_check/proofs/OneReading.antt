@@ -1,0 +1,181 @@
+-- What is written of lines is read in one way.
+use Rattle.std.proofs.Common.{◌≡◌, ◌≢◌, ℕ, zero, suc, ◌+◌, ◌^◌, ◌<◌, ◌≤◌, Bool, true, false, not, ◌&&◌, nat_eq, eq-eqb, List, [], ◌∷◌, ◌++◌, length, get_or, sym, refl, ap, ◌∙◌, subst, arith}
+use Rattle.std.specs.Prelude.{codes, decimal}
+use Rattle.std.specs.List.{All, flat_map, list_all}
+use Rattle.std.proofs.lemmas.Bool.{and_parts}
+use Rattle.std.proofs.lemmas.List.{append_cancel_left}
+use Rattle.std.proofs.lemmas.List.Concat.{flat_map-cons}
+use mathlib.Core.List.{append_assoc}
+use Rattle.ifl_base.specs.declared.fate.Fate.{Fate}
+use Rattle.ifl_base.specs.declared.fate.Fate.TheVariants as fate
+use Rattle.ifl_base.specs.declared.fate.Away.{Away}
+use Rattle.ifl_base.specs.declared.fate.Away.TheVariants as away
+use Rattle.ifl_base.specs.declared.word.Flag.{Flag}
+use Rattle.ifl_base.specs.declared.word.Flag.TheVariants as flag
+use Rattle.ifl_base.specs.declared.word.RingWord.{RingWord}
+use Rattle.ifl_base.specs.Word.{name_of}
+use Rattle.ifl_check.specs.declared.line.Line.{Line}
+use Rattle.ifl_check.specs.Parts.{Lacks}
+use Rattle.ifl_check.specs.Text.{fate_text, away_text, word_text, number_then, line_text, count_text, order_text_of, HasNumbers, HasPlaces, IsReason, IsAwayLine, IsOrderText}
+use Rattle.ifl_check.proofs.Fronts.{cut-same, lacks-append, lacks-decimal, number-same}
+
+-- a test that a byte does not stand in a text
+lacks : (b : ℕ) (xs : List ℕ) → list_all (λ x. not (nat_eq x b)) xs ≡ true → Lacks b xs
+lacks b [] h = tt
+lacks b (x ∷ xs) h = let (p, q) = and_parts (not (nat_eq x b)) (list_all (λ x. not (nat_eq x b)) xs) h in (λ e. absurd (let f = eq-eqb x b e in grind arith), lacks b xs q)
+
+pub lacks-fate : (f : Fate) → Lacks 10 (fate_text f)
+lacks-fate fate.Wire = lacks 10 (codes "wire") refl
+lacks-fate fate.TooManySegments = lacks 10 (codes "too_many_segments") refl
+lacks-fate fate.Reset = lacks 10 (codes "reset") refl
+lacks-fate fate.Flush = lacks 10 (codes "flush") refl
+
+lacks-flag : (f : Flag) → Lacks 10 (name_of f)
+lacks-flag flag.Idle = lacks 10 (codes "idle") refl
+lacks-flag flag.Busy = lacks 10 (codes "busy") refl
+lacks-flag flag.Stalled = lacks 10 (codes "stalled") refl
+lacks-flag flag.Abdicated = lacks 10 (codes "abdicated") refl
+
+lacks-number_then : (n : ℕ) (text : List ℕ) → n < 2 ^ 64 → Lacks 10 text → Lacks 10 (number_then n text)
+lacks-number_then n text h l = lacks-append 10 (decimal n) (32 ∷ text) (lacks-decimal 10 n (omega arith) h) ((λ e. absurd (omega arith)), l)
+
+lacks-word : (w : RingWord) → HasPlaces w → Lacks 10 (word_text w)
+lacks-word w h = let a = h.0 in let b = h.1 in let c = h.2 in
+    lacks-number_then w.head _ (omega arith) (lacks-number_then w.tail _ (omega arith) (lacks-number_then w.cidx _ (omega arith) (lacks-flag w.flag)))
+
+pub lacks-away : (a : Away) → IsReason a → Lacks 10 (away_text a)
+lacks-away away.Runt h = lacks 10 (codes "runt") refl
+lacks-away away.Oversize h = lacks 10 (codes "oversize") refl
+lacks-away away.NoClusters h = lacks 10 (codes "no_clusters") refl
+lacks-away (away.NoBuffers w) h = lacks-append 10 (codes "no_buffers ") (word_text w) (lacks 10 (codes "no_buffers ") refl) (lacks-word w h)
+
+-- ---- a fate, a flag, a word and a reason by their texts
+
+unless : {A : Type 0} {a b : ℕ} → a ≢ b → a ≡ b → A
+unless ne e = absurd (ne e)
+
+first_byte : (i : ℕ) (xs ys : List ℕ) → xs ≡ ys → get_or xs i 0 ≡ get_or ys i 0
+first_byte i xs ys e = ap (λ (z : List ℕ). get_or z i 0) e
+
+pub fate-same : (f g : Fate) → fate_text f ≡ fate_text g → f ≡ g
+fate-same fate.Wire fate.Wire e = refl
+fate-same fate.Wire fate.TooManySegments e = absurd (omega (arith, first_byte 0 _ _ e))
+fate-same fate.Wire fate.Reset e = absurd (omega (arith, first_byte 0 _ _ e))
+fate-same fate.Wire fate.Flush e = absurd (omega (arith, first_byte 0 _ _ e))
+fate-same fate.TooManySegments fate.Wire e = absurd (omega (arith, first_byte 0 _ _ e))
+fate-same fate.TooManySegments fate.TooManySegments e = refl
+fate-same fate.TooManySegments fate.Reset e = absurd (omega (arith, first_byte 0 _ _ e))
+fate-same fate.TooManySegments fate.Flush e = absurd (omega (arith, first_byte 0 _ _ e))
+fate-same fate.Reset fate.Wire e = absurd (omega (arith, first_byte 0 _ _ e))
+fate-same fate.Reset fate.TooManySegments e = absurd (omega (arith, first_byte 0 _ _ e))
+fate-same fate.Reset fate.Reset e = refl
+fate-same fate.Reset fate.Flush e = absurd (omega (arith, first_byte 0 _ _ e))
+fate-same fate.Flush fate.Wire e = absurd (omega (arith, first_byte 0 _ _ e))
+fate-same fate.Flush fate.TooManySegments e = absurd (omega (arith, first_byte 0 _ _ e))
+fate-same fate.Flush fate.Reset e = absurd (omega (arith, first_byte 0 _ _ e))
+fate-same fate.Flush fate.Flush e = refl
+
+flag-same : (f g : Flag) → name_of f ≡ name_of g → f ≡ g
+flag-same flag.Idle flag.Idle e = refl
+flag-same flag.Idle flag.Busy e = absurd (omega (arith, first_byte 0 _ _ e))
+flag-same flag.Idle flag.Stalled e = absurd (omega (arith, first_byte 0 _ _ e))
+flag-same flag.Idle flag.Abdicated e = absurd (omega (arith, first_byte 0 _ _ e))
+flag-same flag.Busy flag.Idle e = absurd (omega (arith, first_byte 0 _ _ e))
+flag-same flag.Busy flag.Busy e = refl
+flag-same flag.Busy flag.Stalled e = absurd (omega (arith, first_byte 0 _ _ e))
+flag-same flag.Busy flag.Abdicated e = absurd (omega (arith, first_byte 0 _ _ e))
+flag-same flag.Stalled flag.Idle e = absurd (omega (arith, first_byte 0 _ _ e))
+flag-same flag.Stalled flag.Busy e = absurd (omega (arith, first_byte 0 _ _ e))
+flag-same flag.Stalled flag.Stalled e = refl
+flag-same flag.Stalled flag.Abdicated e = absurd (omega (arith, first_byte 0 _ _ e))
+flag-same flag.Abdicated flag.Idle e = absurd (omega (arith, first_byte 0 _ _ e))
+flag-same flag.Abdicated flag.Busy e = absurd (omega (arith, first_byte 0 _ _ e))
+flag-same flag.Abdicated flag.Stalled e = absurd (omega (arith, first_byte 0 _ _ e))
+flag-same flag.Abdicated flag.Abdicated e = refl
+
+pub then-same : (m n : ℕ) (ys vs : List ℕ) → m < 2 ^ 64 → n < 2 ^ 64 → number_then m ys ≡ number_then n vs → (m ≡ n) × (ys ≡ vs)
+then-same m n ys vs a b e = number-same 32 m n ys vs (omega arith) a b e
+
+word-same : (w v : RingWord) → HasPlaces w → HasPlaces v → word_text w ≡ word_text v → w ≡ v
+word-same w v h g e = let h0 = h.0 in let h1 = h.1 in let h2 = h.2 in let g0 = g.0 in let g1 = g.1 in let g2 = g.2 in
+    let a = then-same w.head v.head _ _ (omega arith) (omega arith) e in
+    let b = then-same w.tail v.tail _ _ (omega arith) (omega arith) a.1 in
+    let c = then-same w.cidx v.cidx _ _ (omega arith) (omega arith) b.1 in
+    let d = flag-same w.flag v.flag c.1 in
+    (λ i. record { head = a.0 i; tail = b.0 i; cidx = c.0 i; flag = d i })
+
+pub away-same : (a b : Away) → IsReason a → IsReason b → away_text a ≡ away_text b → a ≡ b
+away-same away.Runt away.Runt h g e = refl
+away-same away.Runt away.Oversize h g e = absurd (omega (arith, first_byte 0 _ _ e))
+away-same away.Runt away.NoClusters h g e = absurd (omega (arith, first_byte 0 _ _ e))
+away-same away.Runt (away.NoBuffers v) h g e = absurd (omega (arith, first_byte 0 _ _ e))
+away-same away.Oversize away.Runt h g e = absurd (omega (arith, first_byte 0 _ _ e))
+away-same away.Oversize away.Oversize h g e = refl
+away-same away.Oversize away.NoClusters h g e = absurd (omega (arith, first_byte 0 _ _ e))
+away-same away.Oversize (away.NoBuffers v) h g e = absurd (omega (arith, first_byte 0 _ _ e))
+away-same away.NoClusters away.Runt h g e = absurd (omega (arith, first_byte 0 _ _ e))
+away-same away.NoClusters away.Oversize h g e = absurd (omega (arith, first_byte 0 _ _ e))
+away-same away.NoClusters away.NoClusters h g e = refl
+away-same away.NoClusters (away.NoBuffers v) h g e = absurd (omega (arith, first_byte 3 _ _ e))
+away-same (away.NoBuffers w) away.Runt h g e = absurd (omega (arith, first_byte 0 _ _ e))
+away-same (away.NoBuffers w) away.Oversize h g e = absurd (omega (arith, first_byte 0 _ _ e))
+away-same (away.NoBuffers w) away.NoClusters h g e = absurd (omega (arith, first_byte 3 _ _ e))
+away-same (away.NoBuffers w) (away.NoBuffers v) h g e = ap away.NoBuffers (word-same w v h g (append_cancel_left (codes "no_buffers ") (word_text w) (word_text v) e))
+
+-- ---- lines
+
+-- what is written of a value, and what follows it, tell the value
+abbrev pub ReadsOnce : {X : Type 0} → (X → List ℕ) → (X → Type 0) → Type 0
+ReadsOnce {X} text_of Fits = (x y : X) (a b : List ℕ) → Fits x → Fits y → text_of x ++ a ≡ text_of y ++ b → (x ≡ y) × (a ≡ b)
+
+pub line-parts : {T : Type 0} (text_of : T → List ℕ) (l : Line T) (rest : List ℕ) → line_text text_of l ++ rest ≡ number_then l.sender (number_then l.index (text_of l.what ++ (10 ∷ rest)))
+line-parts text_of l rest = append_assoc (decimal l.sender) _ rest
+    ∙ ap (λ (z : List ℕ). number_then l.sender z) (append_assoc (decimal l.index) _ rest ∙ ap (λ (z : List ℕ). number_then l.index z) (append_assoc (text_of l.what) (codes "\n") rest))
+
+pub named-same : (s k t m : ℕ) (a b : List ℕ) → s < 2 ^ 32 → k < 2 ^ 32 → t < 2 ^ 32 → m < 2 ^ 32 → number_then s (number_then k a) ≡ number_then t (number_then m b) → (s ≡ t) × (k ≡ m) × (a ≡ b)
+named-same s k t m a b p q u v e =
+    let x = then-same s t _ _ (omega arith) (omega arith) e in let y = then-same k m _ _ (omega arith) (omega arith) x.1 in (x.0, y.0, y.1)
+
+line-same : {T : Type 0} (text_of : T → List ℕ) (l m : Line T) (a b : List ℕ) → HasNumbers l → HasNumbers m → Lacks 10 (text_of l.what) → Lacks 10 (text_of m.what) → (text_of l.what ≡ text_of m.what → l.what ≡ m.what)
+    → line_text text_of l ++ a ≡ line_text text_of m ++ b → (l ≡ m) × (a ≡ b)
+line-same text_of l m a b h g p q one e =
+    let x = named-same l.sender l.index m.sender m.index _ _ h.0 h.1 g.0 g.1 (sym (line-parts text_of l a) ∙ e ∙ line-parts text_of m b) in
+    let y = cut-same 10 (text_of l.what) a (text_of m.what) b p q x.2 in
+    let z = one y.0 in
+    ((λ i. record { sender = x.0 i; index = x.1 i; what = z i }), y.1)
+
+pub accepted-once : ReadsOnce (line_text fate_text) HasNumbers
+accepted-once l m a b h g = line-same fate_text l m a b h g (lacks-fate l.what) (lacks-fate m.what) (fate-same l.what m.what)
+
+pub away-once : ReadsOnce (line_text away_text) IsAwayLine
+away-once l m a b h g = line-same away_text l m a b h.0 g.0 (lacks-away l.what h.1) (lacks-away m.what g.1) (away-same l.what m.what h.1 g.1)
+
+-- as many values one after another
+pub all-once : {X : Type 0} (text_of : X → List ℕ) (Fits : X → Type 0) → ReadsOnce text_of Fits → (xs ys : List X) (a b : List ℕ) → length xs ≡ length ys → All Fits xs → All Fits ys
+    → flat_map text_of xs ++ a ≡ flat_map text_of ys ++ b → (xs ≡ ys) × (a ≡ b)
+all-once text_of Fits once [] [] a b n h g e = (refl, e)
+all-once text_of Fits once [] (y ∷ ys) a b n h g e = absurd (omega arith)
+all-once text_of Fits once (x ∷ xs) [] a b n h g e = absurd (omega arith)
+all-once {X} text_of Fits once (x ∷ xs) (y ∷ ys) a b n h g e =
+    let p = ap (λ (z : List ℕ). z ++ a) (flat_map-cons text_of x xs) ∙ append_assoc (text_of x) (flat_map text_of xs) a in
+    let q = ap (λ (z : List ℕ). z ++ b) (flat_map-cons text_of y ys) ∙ append_assoc (text_of y) (flat_map text_of ys) b in
+    let u = once x y _ _ (h 0 x (omega arith)) (g 0 y (omega arith)) (sym p ∙ e ∙ q) in
+    let v = all-once text_of Fits once xs ys a b (omega arith) (λ i d lt. h (suc i) d (omega arith)) (λ i d lt. g (suc i) d (omega arith)) u.1 in
+    (λ i. u.0 i ∷ v.0 i, v.1)
+
+-- a reader that stopped behind some of the lines stops there in every reading
+pub stuck : {X : Type 0} (text_of : X → List ℕ) (Fits : X → Type 0) → ReadsOnce text_of Fits → (xs ys : List X) (a b : List ℕ) → length xs < length ys → All Fits xs → All Fits ys
+    → ((y : X) (more : List ℕ) → Fits y → a ≢ text_of y ++ more) → flat_map text_of xs ++ a ≢ flat_map text_of ys ++ b
+stuck text_of Fits once xs [] a b n h g never e = absurd (omega arith)
+stuck text_of Fits once [] (y ∷ ys) a b n h g never e =
+    never y (flat_map text_of ys ++ b) (g 0 y (omega arith)) (e ∙ ap (λ (z : List ℕ). z ++ b) (flat_map-cons text_of y ys) ∙ append_assoc (text_of y) (flat_map text_of ys) b)
+stuck text_of Fits once (x ∷ xs) (y ∷ ys) a b n h g never e =
+    let p = ap (λ (z : List ℕ). z ++ a) (flat_map-cons text_of x xs) ∙ append_assoc (text_of x) (flat_map text_of xs) a in
+    let q = ap (λ (z : List ℕ). z ++ b) (flat_map-cons text_of y ys) ∙ append_assoc (text_of y) (flat_map text_of ys) b in
+    let u = once x y _ _ (h 0 x (omega arith)) (g 0 y (omega arith)) (sym p ∙ e ∙ q) in
+    stuck text_of Fits once xs ys a b (omega arith) (λ i d lt. h (suc i) d (omega arith)) (λ i d lt. g (suc i) d (omega arith)) never u.1
+
+-- ---- a whole text
+
+pub count-parts : (name : List ℕ) (n : ℕ) (rest : List ℕ) → count_text name n ++ rest ≡ name ++ (32 ∷ (decimal n ++ (10 ∷ rest)))
+count-parts name n rest = append_assoc name _ rest ∙ ap (λ (z : List ℕ). name ++ (32 ∷ z)) (append_assoc (decimal n) (codes "\n") rest)
