@@ -61,3 +61,11 @@ lacks-decimal b n l h = lacks-digits b (decimal n) l (decimal_is_IsNumeral n h).
 pub number-same : (b m n : ℕ) (ys vs : List ℕ) → b < 48 → m < 2 ^ 64 → n < 2 ^ 64 → decimal m ++ (b ∷ ys) ≡ decimal n ++ (b ∷ vs) → (m ≡ n) × (ys ≡ vs)
 number-same b m n ys vs l f g e = let t = cut-same b (decimal m) ys (decimal n) vs (lacks-decimal b m l f) (lacks-decimal b n l g) e in
     (decimal_injective m n f g t.0, t.1)
+
+-- the word before the first of these bytes is the number that stands before it
+pub cut-decimal : (b : ℕ) (text word rest : List ℕ) (n : ℕ) (more : List ℕ) → text ≡ word ++ (b ∷ rest) → Lacks b word → b < 48 → n < 2 ^ 64 → text ≡ decimal n ++ (b ∷ more) → (word ≡ decimal n) × (rest ≡ more)
+cut-decimal b text word rest n more is l small h e = cut-same b word rest (decimal n) more l (lacks-decimal b n small h) (sym is ∙ e)
+
+-- what does not begin the text does not begin it with more behind it
+pub stop_front : (text b more : List ℕ) → ((rest : List ℕ) → text ≢ b ++ rest) → (rest : List ℕ) → text ≢ (b ++ more) ++ rest
+stop_front text b more never rest e = never (more ++ rest) (e ∙ append_assoc b more rest)

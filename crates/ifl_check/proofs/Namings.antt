@@ -26,10 +26,10 @@ bool_cases true = inl refl
 bool_cases false = inr refl
 
 pub count_by-pass : {X : Type 0} (p : X → Bool) (x : X) (xs : List X) → p x ≡ true → count_by p (x ∷ xs) ≡ suc (count_by p xs)
-count_by-pass {X} p x xs h = sum_by-cons (λ (z : X). cond (p z) 1 0) x xs ∙ ap (λ (b : Bool). cond b 1 0 + count_by p xs) h
+count_by-pass {X} p x xs h = let e : count_by p (x ∷ xs) ≡ 1 + count_by p xs = sum_by-cons (λ (z : X). cond (p z) 1 0) x xs ∙ ap (λ (b : Bool). cond b 1 0 + count_by p xs) h in omega arith
 
 pub count_by-fail : {X : Type 0} (p : X → Bool) (x : X) (xs : List X) → p x ≡ false → count_by p (x ∷ xs) ≡ count_by p xs
-count_by-fail {X} p x xs h = sum_by-cons (λ (z : X). cond (p z) 1 0) x xs ∙ ap (λ (b : Bool). cond b 1 0 + count_by p xs) h
+count_by-fail {X} p x xs h = let e : count_by p (x ∷ xs) ≡ 0 + count_by p xs = sum_by-cons (λ (z : X). cond (p z) 1 0) x xs ∙ ap (λ (b : Bool). cond b 1 0 + count_by p xs) h in omega arith
 
 count_by-cons-le : {X : Type 0} (p : X → Bool) (x : X) (xs : List X) → count_by p xs ≤ count_by p (x ∷ xs)
 count_by-cons-le p x xs = ⊎_elim
@@ -37,7 +37,7 @@ count_by-cons-le p x xs = ⊎_elim
     (λ h. let e = count_by-fail p x xs h in omega arith)
     (bool_cases (p x))
 
--- a front has never more, and one that passes behind it counts
+-- a front has fewer, where one that passes behind it counts
 pub count_by-passes : {X : Type 0} (p : X → Bool) (xs : List X) (i : ℕ) (d : X) → i < length xs → p (get_or xs i d) ≡ true → count_by p (take i xs) < count_by p xs
 count_by-passes p [] i d l h = absurd (omega arith)
 count_by-passes p (x ∷ xs) zero d l h = let e = count_by-pass p x xs h in omega arith
@@ -50,7 +50,7 @@ count_by-passes p (x ∷ xs) (suc i) d l h = let r = count_by-passes p xs i d (o
 pub count-named : {T : Type 0} (lines : List (Line T)) (i : ℕ) (l : Line T) → i < length lines → l ≡ get_or lines i l → 0 < count_by (is_named l.sender l.index) lines
 count-named lines i l h is = let r = count_by-passes (is_named l.sender l.index) lines i l h (ap (is_named l.sender l.index) (sym is) ∙ named-itself l) in omega arith
 
--- no line names what is never record
+-- no line names what is no record
 pub count-others : {T : Type 0} (files : List (List Frame)) (s k : ℕ) (lines : List (Line T)) → All (λ l. IsRecordAt files l.sender l.index) lines → (IsRecordAt files s k → ⊥) → count_by (is_named s k) lines ≡ 0
 count-others files s k [] all never = refl
 count-others files s k (l ∷ lines) all never = ⊎_elim
@@ -88,7 +88,7 @@ stops-named files old marks lines n l lt is rec taken h = inr (
 
 -- ---- all lines
 
--- two counts of one record are one too many, and so is one of what is never record
+-- two counts of one record are one too many, and so is one of what is no record
 too_many : (files : List (List Frame)) (accepted : List (Line Fate)) (turned : List (Line Away)) (s k : ℕ) → EachOnce files accepted turned → lines_naming s k accepted turned ≤ 1
 too_many files accepted turned s k h = dite (dec_le (suc k) (length (get_or files s [])))
     (λ r. let e = h.once s k r in omega arith)

@@ -179,3 +179,17 @@ stuck text_of Fits once (x ∷ xs) (y ∷ ys) a b n h g never e =
 
 pub count-parts : (name : List ℕ) (n : ℕ) (rest : List ℕ) → count_text name n ++ rest ≡ name ++ (32 ∷ (decimal n ++ (10 ∷ rest)))
 count-parts name n rest = append_assoc name _ rest ∙ ap (λ (z : List ℕ). name ++ (32 ∷ z)) (append_assoc (decimal n) (codes "\n") rest)
+
+-- what stands behind the names of a line
+pub line-behind : {T : Type 0} (text_of : T → List ℕ) (text : List ℕ) (s k : ℕ) (behind : List ℕ) (l : Line T) (rest : List ℕ) → (text ≡ number_then s (number_then k behind)) × (s < 2 ^ 32) × (k < 2 ^ 32) → HasNumbers l
+    → text ≡ line_text text_of l ++ rest → behind ≡ text_of l.what ++ (10 ∷ rest)
+line-behind text_of text s k behind l rest h g e = (named-same s k l.sender l.index _ _ h.1 h.2 g.0 g.1 (sym h.0 ∙ e ∙ line-parts text_of l rest)).2
+
+-- the readings of a text agree part by part
+record Same (accepted other : List (Line Fate)) (turned others : List (Line Away)) : Type 0 where
+  accepted_same : accepted ≡ other
+  away_same : turned ≡ others
+
+pub order-parts : (xs : List (Line Fate)) (us : List (Line Away))
+    → order_text_of xs us ≡ codes "accepted " ++ (decimal (length xs) ++ (10 ∷ (flat_map (line_text fate_text) xs ++ (codes "away " ++ (decimal (length us) ++ (10 ∷ (flat_map (line_text away_text) us ++ [])))))))
+order-parts xs us = ?

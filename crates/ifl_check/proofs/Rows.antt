@@ -42,7 +42,7 @@ place-onto (fs ∷ files) p h = ⊎_elim
     (cases_lt p (length fs))
 
 -- the files up to one
-pub place-next : (files : List (List Frame)) (s : ℕ) → s < length files → place files (s + 1) 0 ≡ place files s 0 + length (frames_at files s)
+pub place-next : (files : List (List Frame)) (s : ℕ) → s < length files → place files (suc s) 0 ≡ place files s 0 + length (frames_at files s)
 unfolding place
 place-next [] s h = absurd (omega arith)
 place-next (fs ∷ []) zero h = omega arith

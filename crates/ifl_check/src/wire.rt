@@ -74,12 +74,20 @@ fn low_bits(len: usize) -> u32
 }
 
 /// What stands behind a number's four bytes.
-#[tactic(auto, unfolding(ifl_pcap::specs::Numbers::spelled_in))]
 fn behind_number(text: &[u8], n: u32) -> Option<&[u8]>
     ensures some { IfSome result (λ rest. text.now ≡ spelled_in Little n ++ rest.now) }
     ensures none { IfNone result ((rest : List ℕ) → text.now ≢ spelled_in Little n ++ rest) }
 {
+    let bytes = spelled(n);
+    behind(text, &bytes)
+}
+
+/// A number's four bytes, the lowest first.
+#[tactic(auto, unfolding(ifl_pcap::specs::Numbers::spelled_in))]
+fn spelled(n: u32) -> [u8; 4]
+    ensures { result ≡ spelled_in Little n }
+{
     let mut bytes = [0u8; 4];
     LittleEndian::write_u32(&mut bytes, n);
-    behind(text, &bytes)
+    bytes
 }
