@@ -2,7 +2,7 @@
 use Rattle.std.proofs.Common.{◌≡◌, ◌≢◌, ℕ, zero, suc, ◌+◌, ◌-◌, ◌<◌, ◌≤◌, ◌⊎◌, ⊎_elim, inl, inr, Bool, true, false, ◌&&◌, nat_eq, eq-eqb, ne_eqb, eqb-true, List, [], ◌∷◌, ◌++◌, length, get_or, set, take, drop, cond, sym, refl, ap, ◌∙◌, subst, arith}
 use Rattle.std.specs.List.{AllWithin, All, Any, count_by, list_all}
 use Rattle.std.proofs.lemmas.Bool.{cases_lt, and_parts}
-use Rattle.std.proofs.lemmas.List.{get_or-set_same, get_or-set_other}
+use Rattle.std.proofs.lemmas.List.{length-set, get_or_default, get_or-set_same, get_or-set_other}
 use Rattle.std.proofs.lemmas.List.Sums.{count_by_more_no, count_by_more_yes, sum_by-cons}
 use mathlib.Core.Logic.{dite}
 use native.Mathlib.Decide.{ℕ_discrete, dec_le}
@@ -137,3 +137,20 @@ once-not_ones files zero_marks one_marks marks accepted turned zeros a b sized o
     let (p, l, ne) = not-ones marks ones in let (s, k, r, is) = place-onto files p (omega arith) in
     let z = zeros s k in let x = a s k r in let y = b s k r in let o = h.once s k r in
     ne (ap (λ (n : ℕ). get_or marks n 0) (sym is) ∙ (omega arith))
+
+-- a step of the marking
+pub mark-more : {T : Type 0} (files : List (List Frame)) (old marks : List ℕ) (lines : List (Line T)) (n : ℕ) (l : Line T) (p : ℕ) → n < length lines → l ≡ get_or lines n l
+    → length marks ≡ all_records files → length marks ≡ length old → IsRecordAt files l.sender l.index → p ≡ place files l.sender l.index → get_or marks p 0 ≡ 0
+    → Counts files old marks (take n lines) → AllWithin (λ x. IsRecordAt files x.sender x.index) lines 0 n
+    → (length (set marks p 1) ≡ length old) × Counts files old (set marks p 1) (take (n + 1) lines) × AllWithin (λ x. IsRecordAt files x.sender x.index) lines 0 (n + 1)
+mark-more {T} files old marks lines n l p lt is sized same rec at free counts within = (
+      length-set marks p 1 ∙ same,
+      subst (λ (z : ℕ). Counts files old (set marks z 1) (take (n + 1) lines)) (sym at)
+      (counts-more files old marks lines n l lt is sized rec (ap (λ (z : ℕ). get_or marks z 0) (sym at) ∙ free) counts),
+      (λ k d low high. ⊎_elim
+        (λ below. within k d low below)
+        (λ above. let e : k ≡ n = omega arith in
+          let here : get_or lines k d ≡ l = ap (λ (z : ℕ). get_or lines z d) e ∙ (get_or_default lines n d l lt ∙ sym is) in
+          subst (λ (z : Line T). IsRecordAt files z.sender z.index) (sym here) rec)
+        (cases_lt k n)),
+    )

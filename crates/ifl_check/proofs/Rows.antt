@@ -1,7 +1,10 @@
 -- The places of records in one row.
-use Rattle.std.proofs.Common.{◌≡◌, ◌≢◌, ℕ, zero, suc, ◌+◌, ◌-◌, ◌<◌, ◌≤◌, ◌⊎◌, ⊎_elim, inl, inr, List, [], ◌∷◌, length, get_or, map, sym, refl, ap, ◌∙◌, subst, arith}
+use Rattle.std.proofs.Common.{◌≡◌, ◌≢◌, ℕ, zero, suc, ◌+◌, ◌-◌, ◌<◌, ◌≤◌, ◌⊎◌, ⊎_elim, inl, inr, List, [], ◌∷◌, ◌++◌, length, length-append, get_or, map, sym, refl, ap, ◌∙◌, subst, arith}
 use Rattle.std.specs.List.{sum_by}
 use Rattle.std.proofs.lemmas.Bool.{cases_lt}
+use Rattle.std.proofs.Math.Numerals.{add-one}
+use Rattle.std.proofs.Math.Seq.{get_or-append_seam}
+use Rattle.std.proofs.lemmas.List.{length-map, get_or_append_left}
 use Rattle.std.proofs.lemmas.List.Sums.{sum_by-cons}
 use Rattle.ifl_pcap.specs.declared.capture.Capture.{Capture}
 use Rattle.ifl_pcap.specs.declared.frame.Frame.{Frame}
@@ -73,3 +76,35 @@ pub record-file : (files : List (List Frame)) (s k : ℕ) → IsRecordAt files s
 record-file [] s k h = absurd (omega arith)
 record-file (fs ∷ files) zero k h = omega arith
 record-file (fs ∷ files) (suc s) k h = let r = record-file files s k h in omega arith
+
+-- the place of a record, from where its file begins
+pub place-start : (cs : List Capture) (starts : List ℕ) (s k : ℕ) → ((t : ℕ) → t < length cs → get_or starts t 0 ≡ place (each_frames cs) t 0) → IsRecordAt (each_frames cs) s k
+    → (get_or starts s 0 + k ≡ place (each_frames cs) s k) × (get_or starts s 0 + k < sum_by (λ c. length c.frames) cs)
+place-start cs starts s k h r =
+    let f = record-file (each_frames cs) s k r in let n = length-map cs (λ (c : Capture). c.frames) in
+    let a = h s (omega arith) in let b = place-plus (each_frames cs) s k in let w = place-within (each_frames cs) s k r in let e = records-captures cs in
+    (omega arith, omega arith)
+
+pub place-zero : (files : List (List Frame)) → place files 0 0 ≡ 0
+unfolding place
+place-zero [] = refl
+place-zero (fs ∷ files) = refl
+
+-- one file more
+pub next-file : (cs : List Capture) (i : ℕ) (x : Capture) → i < length cs → x ≡ get_or cs i x
+    → (place (each_frames cs) (i + 1) 0 ≡ place (each_frames cs) i 0 + length x.frames) × (place (each_frames cs) i 0 + length x.frames ≤ sum_by (λ c. length c.frames) cs)
+next-file cs i x lt is =
+    let n = length-map cs (λ (c : Capture). c.frames) in
+    let here : length (frames_at (each_frames cs) i) ≡ length x.frames = ap (λ (fs : List Frame). length fs) (frames-capture cs i x lt ∙ ap (λ (c : Capture). c.frames) (sym is)) in
+    let a = place-next (each_frames cs) i (omega arith) in let b = place-le (each_frames cs) i (omega arith) in let e = records-captures cs in
+    (ap (λ (j : ℕ). place (each_frames cs) j 0) (add-one i) ∙ (omega arith), omega arith)
+
+pub starts-more : (files : List (List Frame)) (starts new : List ℕ) (n total : ℕ) → ((s : ℕ) → s < n → get_or starts s 0 ≡ place files s 0) → length starts ≡ n → total ≡ place files n 0 → new ≡ starts ++ (total ∷ [])
+    → ((s : ℕ) → s < n + 1 → get_or new s 0 ≡ place files s 0) × (length new ≡ n + 1)
+starts-more files starts new n total h sized is grown =
+    (λ s lt. ⊎_elim
+      (λ below. ap (λ (z : List ℕ). get_or z s 0) grown ∙ (get_or_append_left starts (total ∷ []) 0 s (omega arith) ∙ h s below))
+      (λ above. let e : s ≡ length starts = omega arith in let m : s ≡ n = omega arith in
+        ap (λ (z : List ℕ). get_or z s 0) grown ∙ (ap (λ (z : ℕ). get_or (starts ++ (total ∷ [])) z 0) e ∙ (get_or-append_seam starts total [] 0 ∙ (is ∙ ap (λ (z : ℕ). place files z 0) (sym m)))))
+      (cases_lt s n),
+    ap (λ (z : List ℕ). length z) grown ∙ (let a = length-append starts (total ∷ []) in omega arith))

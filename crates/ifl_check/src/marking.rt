@@ -23,13 +23,26 @@ pub(crate) fn each_once(
 {
     let (starts, total) = starts_of(alloc, captures)?;
     let mut marks = vec![in alloc; 0u8; total]?;
-    if !mark(captures, &starts, &mut marks, &order.accepted) {
-        return Ok(false);
+    Ok(marks_each(captures, &starts, &mut marks, order))
+}
+
+/// Marks the record of each line, and says whether each record was marked, and none twice.
+fn marks_each(captures: &[Capture], starts: &[usize], marks: &mut [u8], order: &Order) -> bool
+    requires few { sum_by (λ c. length c.frames) captures.now ≤ 1000000 }
+    requires starts { (length starts.now ≡ length captures.now) × ((s : ℕ) → s < length captures.now → slice_index_or starts.now s 0 ≡ place (each_frames captures.now) s 0) }
+    requires marks { length marks.old ≡ sum_by (λ c. length c.frames) captures.now }
+    requires zeros { (i : ℕ) → slice_index_or marks.old i 0 ≡ 0 }
+    ensures yes { result ≡ true → EachOnce (each_frames captures.now) order.now.accepted.items order.now.away.items }
+    ensures no { result ≡ false → EachOnce (each_frames captures.now) order.now.accepted.items order.now.away.items → ⊥ }
+    ensures senders { result ≡ true → All (λ l. l.sender < length captures.now) order.now.accepted.items }
+{
+    if !mark(captures, starts, marks, &order.accepted) {
+        return false;
     }
-    if !mark(captures, &starts, &mut marks, &order.away) {
-        return Ok(false);
+    if !mark(captures, starts, marks, &order.away) {
+        return false;
     }
-    Ok(are_ones(&marks))
+    are_ones(marks)
 }
 
 fn are_ones(marks: &[u8]) -> bool

@@ -1,9 +1,15 @@
-use Rattle.std.proofs.Common.{◌≡◌, ◌∙◌, ◌≤◌, ◌-◌, ◌<◌, sym, refl, arith, rules, get_or, length, not}
+use Rattle.std.proofs.Common.{◌≡◌, ◌-◌, ◌<◌, arith, rules, get_or}
+use Rattle.ifl_base.specs.declared.fate.Away.TheVariants as away
 use Rattle.ifl_base.specs.declared.fate.Away.{Away}
 use Rattle.ifl_check.specs.declared.line.Line.{Line}
 use Rattle.ifl_check.specs.InOrder.{IsSorted}
-use Rattle.ifl_check.proofs.Ascending.{sorted-more}
+use Rattle.ifl_check.proofs.Ascending.{sorted-more, get_or-any}
 use Rattle.ifl_check.proofs.ordering.away_in_order.Goals as goal
 
 pub loop-i-preserved : goal.loop-i-preserved
-loop-i-preserved c = sorted-more c.args.lines.now c.loop-i.i (search rules) c.loop-i.invariant (λ d. search rules)
+loop-i-preserved c =
+    let n = c.loop-i.i in let lines = c.args.lines.now in let e : Line Away = record { sender = 0; index = 0; what = away.Runt } in
+    let lt = c.loop-i-test.true in let one = c.loop-i.auto.i in
+    sorted-more lines n (omega arith) c.loop-i.invariant (λ d.
+    let low = get_or-any lines (n - 1) e d (omega arith) in let high = get_or-any lines n e d (omega arith) in
+    rw (low, high) at c.if-not-is_sorted.false)
