@@ -69,3 +69,11 @@ cut-decimal b text word rest n more is l small h e = cut-same b word rest (decim
 -- what does not begin the text does not begin it with more behind it
 pub stop_front : (text b more : List ℕ) → ((rest : List ℕ) → text ≢ b ++ rest) → (rest : List ℕ) → text ≢ (b ++ more) ++ rest
 stop_front text b more never rest e = never (more ++ rest) (e ∙ append_assoc b more rest)
+
+-- five parts that were read one after another
+pub five_parts : (text a b c d e r1 r2 r3 r4 rest : List ℕ) → text ≡ a ++ r1 → r1 ≡ b ++ r2 → r2 ≡ c ++ r3 → r3 ≡ d ++ r4 → r4 ≡ e ++ rest → text ≡ (a ++ (b ++ (c ++ (d ++ e)))) ++ rest
+five_parts text a b c d e r1 r2 r3 r4 rest p1 p2 p3 p4 p5 =
+    let q4 = p4 ∙ (ap (λ (z : List ℕ). d ++ z) p5 ∙ sym (append_assoc d e rest)) in
+    let q3 = p3 ∙ (ap (λ (z : List ℕ). c ++ z) q4 ∙ sym (append_assoc c (d ++ e) rest)) in
+    let q2 = p2 ∙ (ap (λ (z : List ℕ). b ++ z) q3 ∙ sym (append_assoc b (c ++ (d ++ e)) rest)) in
+    p1 ∙ (ap (λ (z : List ℕ). a ++ z) q2 ∙ sym (append_assoc a (b ++ (c ++ (d ++ e))) rest))

@@ -2,18 +2,19 @@
 use Rattle.std.proofs.Common.{◌≡◌, ◌≢◌, ℕ, zero, suc, ◌+◌, ◌-◌, ◌<◌, ◌≤◌, ◌⊎◌, ⊎_elim, inl, inr, Bool, true, false, ◌&&◌, nat_eq, eq-eqb, ne_eqb, eqb-true, List, [], ◌∷◌, ◌++◌, length, get_or, set, take, drop, cond, sym, refl, ap, ◌∙◌, subst, arith}
 use Rattle.std.specs.List.{AllWithin, All, Any, count_by, list_all}
 use Rattle.std.proofs.lemmas.Bool.{cases_lt, and_parts}
-use Rattle.std.proofs.lemmas.List.{length-set, get_or_default, get_or-set_same, get_or-set_other}
+use Rattle.std.proofs.lemmas.List.{length-map, length-set, get_or_default, get_or-set_same, get_or-set_other}
 use Rattle.std.proofs.lemmas.List.Sums.{count_by_more_no, count_by_more_yes, sum_by-cons}
 use mathlib.Core.Logic.{dite}
 use native.Mathlib.Decide.{ℕ_discrete, dec_le}
 use Rattle.ifl_base.specs.declared.fate.Fate.{Fate}
 use Rattle.ifl_base.specs.declared.fate.Away.{Away}
+use Rattle.ifl_pcap.specs.declared.capture.Capture.{Capture}
 use Rattle.ifl_pcap.specs.declared.frame.Frame.{Frame}
 use Rattle.ifl_check.specs.declared.line.Line.{Line}
-use Rattle.ifl_check.specs.Files.{IsRecordAt}
+use Rattle.ifl_check.specs.Files.{each_frames, IsRecordAt}
 use Rattle.ifl_check.specs.EachOnce.{is_named, lines_naming, EachOnce}
 use Rattle.ifl_check.specs.Places.{place, Counts}
-use Rattle.ifl_check.proofs.Rows.{place-same, place-within, place-onto, all_records}
+use Rattle.ifl_check.proofs.Rows.{record-file, place-same, place-within, place-onto, all_records}
 
 pub named-itself : {T : Type 0} (l : Line T) → is_named l.sender l.index l ≡ true
 named-itself l = rw (eq-eqb l.sender l.sender refl, eq-eqb l.index l.index refl) refl
@@ -154,3 +155,7 @@ mark-more {T} files old marks lines n l p lt is sized same rec at free counts wi
           subst (λ (z : Line T). IsRecordAt files z.sender z.index) (sym here) rec)
         (cases_lt k n)),
     )
+
+-- lines that name records name files
+pub senders-within : {T : Type 0} (cs : List Capture) (lines : List (Line T)) → All (λ l. IsRecordAt (each_frames cs) l.sender l.index) lines → All (λ l. l.sender < length cs) lines
+senders-within cs lines h i d lt = let r = record-file (each_frames cs) (get_or lines i d).sender (get_or lines i d).index (h i d lt) in let n = length-map cs (λ (c : Capture). c.frames) in omega arith

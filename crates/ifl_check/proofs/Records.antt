@@ -8,6 +8,9 @@ use Rattle.std.proofs.lemmas.List.{append_cancel_left, append-nil, take_more, ta
 use Rattle.std.proofs.lemmas.List.Concat.{flat_map-cons}
 use mathlib.Core.List.{append_assoc}
 use Rattle.ifl_pcap.specs.declared.form.Order.TheVariants.{Little}
+use Rattle.ifl_base.specs.declared.ticket.Stamp.{Stamp}
+use Rattle.ifl_pcap.specs.declared.frame.Frame.{Frame}
+use Rattle.ifl_pcap.specs.File.{record_of}
 use Rattle.ifl_pcap.specs.Numbers.{spelled_in}
 
 -- the bytes of a number are those of its low 32 bits
@@ -50,3 +53,21 @@ all-flat_map {A = A} f xs n text front a b e =
 pub flat_map-flat_map : {X Y A : Type 0} (g : Y → List A) (f : X → List Y) (xs : List X) → flat_map g (flat_map f xs) ≡ flat_map (λ x. flat_map g (f x)) xs
 flat_map-flat_map g f [] = refl
 flat_map-flat_map {A = A} g f (x ∷ xs) = ap (flat_map g) (flat_map-cons f x xs) ∙ flat_map-append g (f x) (flat_map f xs) ∙ ap (λ (z : List A). flat_map g (f x) ++ z) (flat_map-flat_map g f xs) ∙ sym (flat_map-cons (λ y. flat_map g (f y)) x xs)
+
+-- a record in its parts
+pub record-parts : (f : Frame) (st : Stamp) (low : ℕ) (bytes : List ℕ) → st ≡ f.stamp → low ≡ length f.bytes % 4294967296 → bytes ≡ f.bytes
+    → spelled_in Little st.sec ++ (spelled_in Little st.usec ++ (spelled_in Little low ++ (spelled_in Little st.orig ++ bytes))) ≡ record_of f
+record-parts f st low bytes e l b =
+    let len : spelled_in Little low ≡ spelled_in Little (length f.bytes) = ap (spelled_in Little) l ∙ spelled_in-low (length f.bytes) in
+    (λ i. spelled_in Little (e i).sec ++ (spelled_in Little (e i).usec ++ (len i ++ (spelled_in Little (e i).orig ++ b i))))
+
+-- nothing is left behind all elements
+pub rest-all : {X A : Type 0} (f : X → List A) (xs : List X) (n : ℕ) (text front rest : List A) → length xs ≤ n → n ≤ length xs → text ≡ front ++ (flat_map f (take n xs) ++ rest) → text ≡ front ++ flat_map f xs → rest ≡ []
+rest-all {A = A} f xs n text front rest a b e h =
+    let same : n ≡ length xs = omega arith in
+    let whole : flat_map f (take n xs) ≡ flat_map f xs = ap (flat_map f) (ap (λ (m : ℕ). take m xs) same ∙ take-length xs) in
+    append_cancel_left (flat_map f xs) rest [] (ap (λ (z : List A). z ++ rest) (sym whole) ∙ append_cancel_left front _ _ (sym e ∙ h) ∙ sym (append-nil (flat_map f xs)))
+
+pub nil-length : {A : Type 0} (xs : List A) → length xs ≡ 0 → xs ≡ []
+nil-length [] h = refl
+nil-length (x ∷ xs) h = absurd (omega arith)

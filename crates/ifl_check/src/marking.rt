@@ -6,7 +6,7 @@ ghost use Rattle.ifl_check.specs.Places.{place, Counts};
 
 use crate::files::records_at;
 use crate::line::{Line, Order};
-use ifl_base::NoMemory;
+use ifl_base::{Away, Fate, NoMemory};
 use ifl_pcap::Capture;
 use std::alloc::Global;
 
@@ -23,23 +23,29 @@ pub(crate) fn each_once(
 {
     let (starts, total) = starts_of(alloc, captures)?;
     let mut marks = vec![in alloc; 0u8; total]?;
-    Ok(marks_each(captures, &starts, &mut marks, order))
+    Ok(marks_each(captures, &starts, &mut marks, &order.accepted, &order.away))
 }
 
 /// Marks the record of each line, and says whether each record was marked, and none twice.
-fn marks_each(captures: &[Capture], starts: &[usize], marks: &mut [u8], order: &Order) -> bool
+fn marks_each(
+    captures: &[Capture],
+    starts: &[usize],
+    marks: &mut [u8],
+    accepted: &[Line<Fate>],
+    away: &[Line<Away>],
+) -> bool
     requires few { sum_by (λ c. length c.frames) captures.now ≤ 1000000 }
     requires starts { (length starts.now ≡ length captures.now) × ((s : ℕ) → s < length captures.now → slice_index_or starts.now s 0 ≡ place (each_frames captures.now) s 0) }
     requires marks { length marks.old ≡ sum_by (λ c. length c.frames) captures.now }
     requires zeros { (i : ℕ) → slice_index_or marks.old i 0 ≡ 0 }
-    ensures yes { result ≡ true → EachOnce (each_frames captures.now) order.now.accepted.items order.now.away.items }
-    ensures no { result ≡ false → EachOnce (each_frames captures.now) order.now.accepted.items order.now.away.items → ⊥ }
-    ensures senders { result ≡ true → All (λ l. l.sender < length captures.now) order.now.accepted.items }
+    ensures yes { result ≡ true → EachOnce (each_frames captures.now) accepted.now away.now }
+    ensures no { result ≡ false → EachOnce (each_frames captures.now) accepted.now away.now → ⊥ }
+    ensures senders { result ≡ true → All (λ l. l.sender < length captures.now) accepted.now }
 {
-    if !mark(captures, starts, marks, &order.accepted) {
+    if !mark(captures, starts, marks, accepted) {
         return false;
     }
-    if !mark(captures, starts, marks, &order.away) {
+    if !mark(captures, starts, marks, away) {
         return false;
     }
     are_ones(marks)

@@ -1,4 +1,4 @@
-use Rattle.std.proofs.Common.{◌≡◌, ◌-◌, ◌<◌, arith, rules, get_or}
+use Rattle.std.proofs.Common.{◌≡◌, ◌-◌, ◌<◌, arith, get_or, subst}
 use Rattle.ifl_base.specs.declared.fate.Away.TheVariants as away
 use Rattle.ifl_base.specs.declared.fate.Away.{Away}
 use Rattle.ifl_check.specs.declared.line.Line.{Line}
@@ -12,4 +12,4 @@ loop-i-preserved c =
     let lt = c.loop-i-test.true in let one = c.loop-i.auto.i in
     sorted-more lines n (omega arith) c.loop-i.invariant (λ d.
     let low = get_or-any lines (n - 1) e d (omega arith) in let high = get_or-any lines n e d (omega arith) in
-    rw (low, high) at c.if-not-is_sorted.false)
+    subst (λ (z : Line Away). IsSorted z (get_or lines n d)) low (subst (λ (z : Line Away). IsSorted (get_or lines (n - 1) e) z) high (c.is_sorted.ensures.yes c.if-not-is_sorted.false)))
