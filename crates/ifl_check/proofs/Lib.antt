@@ -7,3 +7,4 @@ pub mod Ascending
 pub mod Rows
 pub mod Namings
 pub mod Records
+pub mod Verdicts

@@ -1,9 +1,9 @@
 -- What is written of lines is read in one way.
-use Rattle.std.proofs.Common.{◌≡◌, ◌≢◌, ℕ, zero, suc, ◌+◌, ◌^◌, ◌<◌, ◌≤◌, Bool, true, false, not, ◌&&◌, nat_eq, eq-eqb, List, [], ◌∷◌, ◌++◌, length, get_or, sym, refl, ap, ◌∙◌, subst, arith}
+use Rattle.std.proofs.Common.{◌≡◌, ◌≢◌, ℕ, zero, suc, ◌+◌, ◌^◌, ◌<◌, ◌≤◌, Bool, true, false, not, ◌&&◌, nat_eq, eq-eqb, List, [], ◌∷◌, ◌++◌, length, length-append, get_or, sym, refl, ap, ◌∙◌, subst, arith}
 use Rattle.std.specs.Prelude.{codes, decimal}
 use Rattle.std.specs.List.{All, flat_map, list_all}
 use Rattle.std.proofs.lemmas.Bool.{and_parts}
-use Rattle.std.proofs.lemmas.List.{append_cancel_left}
+use Rattle.std.proofs.lemmas.List.{append_cancel_left, append-nil}
 use Rattle.std.proofs.lemmas.List.Concat.{flat_map-cons}
 use mathlib.Core.List.{append_assoc}
 use Rattle.ifl_base.specs.declared.fate.Fate.{Fate}
@@ -185,11 +185,79 @@ pub line-behind : {T : Type 0} (text_of : T → List ℕ) (text : List ℕ) (s k
     → text ≡ line_text text_of l ++ rest → behind ≡ text_of l.what ++ (10 ∷ rest)
 line-behind text_of text s k behind l rest h g e = (named-same s k l.sender l.index _ _ h.1 h.2 g.0 g.1 (sym h.0 ∙ e ∙ line-parts text_of l rest)).2
 
--- the readings of a text agree part by part
-record Same (accepted other : List (Line Fate)) (turned others : List (Line Away)) : Type 0 where
-  accepted_same : accepted ≡ other
-  away_same : turned ≡ others
-
+-- a text in its parts
 pub order-parts : (xs : List (Line Fate)) (us : List (Line Away))
-    → order_text_of xs us ≡ codes "accepted " ++ (decimal (length xs) ++ (10 ∷ (flat_map (line_text fate_text) xs ++ (codes "away " ++ (decimal (length us) ++ (10 ∷ (flat_map (line_text away_text) us ++ [])))))))
-order-parts xs us = ?
+    → order_text_of xs us ≡ codes "accepted " ++ (decimal (length xs) ++ (10 ∷ (flat_map (line_text fate_text) xs ++ (codes "away " ++ (decimal (length us) ++ (10 ∷ flat_map (line_text away_text) us))))))
+order-parts xs us = count-parts (codes "accepted") (length xs) (flat_map (line_text fate_text) xs ++ (count_text (codes "away") (length us) ++ flat_map (line_text away_text) us))
+    ∙ ap (λ (z : List ℕ). codes "accepted " ++ (decimal (length xs) ++ (10 ∷ (flat_map (line_text fate_text) xs ++ z)))) (count-parts (codes "away") (length us) (flat_map (line_text away_text) us))
+
+-- what stands behind the first count
+abbrev pub lines_and_away : List (Line Fate) → List (Line Away) → List ℕ
+lines_and_away xs us = flat_map (line_text fate_text) xs ++ (codes "away " ++ (decimal (length us) ++ (10 ∷ flat_map (line_text away_text) us)))
+
+length-lines : {T : Type 0} (text_of : T → List ℕ) (xs : List (Line T)) → length xs ≤ length (flat_map (line_text text_of) xs)
+length-lines text_of [] = omega arith
+length-lines text_of (x ∷ xs) =
+    let r = length-lines text_of xs in let e = ap (λ (z : List ℕ). length z) (flat_map-cons (line_text text_of) x xs) in
+    let f = length-append (line_text text_of x) (flat_map (line_text text_of) xs) in let g = length-append (decimal x.sender) (32 ∷ number_then x.index (text_of x.what ++ codes "\n")) in omega arith
+
+-- there are no more lines than bytes
+few-lines : (text : List ℕ) (xs : List (Line Fate)) (us : List (Line Away)) → IsOrderText text xs us → (length xs ≤ length text) × (length us ≤ length text)
+few-lines text xs us h =
+    let e = ap (λ (z : List ℕ). length z) (sym h.reads ∙ order-parts xs us) in
+    let a = length-lines fate_text xs in let b = length-lines away_text us in
+    let c = length-append (codes "accepted ") (decimal (length xs) ++ (10 ∷ lines_and_away xs us)) in
+    let d = length-append (decimal (length xs)) (10 ∷ lines_and_away xs us) in
+    let f = length-append (flat_map (line_text fate_text) xs) (codes "away " ++ (decimal (length us) ++ (10 ∷ flat_map (line_text away_text) us))) in
+    let g = length-append (codes "away ") (decimal (length us) ++ (10 ∷ flat_map (line_text away_text) us)) in
+    let k = length-append (decimal (length us)) (10 ∷ flat_map (line_text away_text) us) in
+    (omega arith, omega arith)
+
+count-same : (name : List ℕ) (m n : ℕ) (a b : List ℕ) → m < 2 ^ 64 → n < 2 ^ 64 → name ++ (decimal m ++ (10 ∷ a)) ≡ name ++ (decimal n ++ (10 ∷ b)) → (m ≡ n) × (a ≡ b)
+count-same name m n a b p q e = number-same 10 m n a b (omega arith) p q (append_cancel_left name _ _ e)
+
+-- what a reader has read agrees with every reading of the text: the first count, the accepted lines, the second count, the away lines
+pub few-accepted : (text : List ℕ) (xs : List (Line Fate)) (us : List (Line Away)) → length text < 2 ^ 64 → IsOrderText text xs us → length xs < 2 ^ 64
+few-accepted text xs us small h = let f = few-lines text xs us h in let g = f.0 in omega arith
+
+pub few-away : (text : List ℕ) (xs : List (Line Fate)) (us : List (Line Away)) → length text < 2 ^ 64 → IsOrderText text xs us → length us < 2 ^ 64
+few-away text xs us small h = let f = few-lines text xs us h in let g = f.1 in omega arith
+
+pub after-count : (text rest : List ℕ) (count : ℕ) (xs : List (Line Fate)) (us : List (Line Away)) → length text < 2 ^ 64 → IsOrderText text xs us → count < 2 ^ 64
+    → text ≡ codes "accepted " ++ (decimal count ++ (10 ∷ rest)) → (count ≡ length xs) × (rest ≡ lines_and_away xs us)
+after-count text rest count xs us small h c e = count-same (codes "accepted ") count (length xs) rest (lines_and_away xs us) c (few-accepted text xs us small h) (sym e ∙ (sym h.reads ∙ order-parts xs us))
+
+pub after-accepted : (text rest behind : List ℕ) (ls xs : List (Line Fate)) (us : List (Line Away)) → IsOrderText text xs us → rest ≡ lines_and_away xs us
+    → rest ≡ flat_map (line_text fate_text) ls ++ behind → length ls ≡ length xs → All HasNumbers ls → (ls ≡ xs) × (behind ≡ codes "away " ++ (decimal (length us) ++ (10 ∷ flat_map (line_text away_text) us)))
+after-accepted text rest behind ls xs us h r e n fit = all-once (line_text fate_text) HasNumbers accepted-once ls xs behind _ n fit h.accepted_fit (sym e ∙ r)
+
+pub after-second : (text rest behind : List ℕ) (count : ℕ) (xs : List (Line Fate)) (us : List (Line Away)) → length text < 2 ^ 64 → IsOrderText text xs us → count < 2 ^ 64
+    → rest ≡ codes "away " ++ (decimal (length us) ++ (10 ∷ flat_map (line_text away_text) us)) → rest ≡ codes "away " ++ (decimal count ++ (10 ∷ behind)) → (count ≡ length us) × (behind ≡ flat_map (line_text away_text) us)
+after-second text rest behind count xs us small h c r e = count-same (codes "away ") count (length us) behind _ c (few-away text xs us small h) (sym e ∙ r)
+
+pub after-away : (text rest behind : List ℕ) (ms us : List (Line Away)) (xs : List (Line Fate)) → IsOrderText text xs us → rest ≡ flat_map (line_text away_text) us
+    → rest ≡ flat_map (line_text away_text) ms ++ behind → length ms ≡ length us → All IsAwayLine ms → (ms ≡ us) × (behind ≡ [])
+after-away text rest behind ms us xs h r e n fit =
+    all-once (line_text away_text) IsAwayLine away-once ms us behind [] n fit h.away_fit (sym e ∙ (r ∙ sym (append-nil (flat_map (line_text away_text) us))))
+
+-- a text has one reading
+pub order-once : (text : List ℕ) (xs ys : List (Line Fate)) (us vs : List (Line Away)) → length text < 2 ^ 64 → IsOrderText text xs us → IsOrderText text ys vs → (xs ≡ ys) × (us ≡ vs)
+order-once text xs ys us vs small h g =
+    let a = after-count text (lines_and_away xs us) (length xs) ys vs small g (few-accepted text xs us small h) (sym h.reads ∙ order-parts xs us) in
+    let b = after-accepted text (lines_and_away xs us) _ xs ys vs g a.1 refl a.0 h.accepted_fit in
+    let c = after-second text _ (flat_map (line_text away_text) us) (length us) ys vs small g (few-away text xs us small h) b.1 refl in
+    let d = after-away text (flat_map (line_text away_text) us) [] us vs ys g c.1 (sym (append-nil (flat_map (line_text away_text) us))) c.0 h.away_fit in
+    (b.0, d.0)
+
+-- a text that was read to its end is that of its lines
+pub order-read : (text r1 r2 r3 r4 : List ℕ) (m n : ℕ) (xs : List (Line Fate)) (us : List (Line Away)) → text ≡ codes "accepted " ++ (decimal m ++ (10 ∷ r1)) → r1 ≡ flat_map (line_text fate_text) xs ++ r2 → length xs ≡ m → All HasNumbers xs
+    → r2 ≡ codes "away " ++ (decimal n ++ (10 ∷ r3)) → r3 ≡ flat_map (line_text away_text) us ++ r4 → length us ≡ n → All IsAwayLine us → r4 ≡ [] → IsOrderText text xs us
+order-read text r1 r2 r3 r4 m n xs us p1 p2 lx fx p3 p4 lu fu p5 = record {
+  accepted_fit = fx;
+  away_fit = fu;
+  reads =
+    let e3 : r3 ≡ flat_map (line_text away_text) us = p4 ∙ (ap (λ (z : List ℕ). flat_map (line_text away_text) us ++ z) p5 ∙ append-nil (flat_map (line_text away_text) us)) in
+    let e2 : r2 ≡ codes "away " ++ (decimal (length us) ++ (10 ∷ flat_map (line_text away_text) us)) = p3 ∙ (λ i. codes "away " ++ (decimal (sym lu i) ++ (10 ∷ e3 i))) in
+    let e1 : r1 ≡ lines_and_away xs us = p2 ∙ ap (λ (z : List ℕ). flat_map (line_text fate_text) xs ++ z) e2 in
+    order-parts xs us ∙ sym (p1 ∙ (λ i. codes "accepted " ++ (decimal (sym lx i) ++ (10 ∷ e1 i))));
+}

@@ -9,6 +9,7 @@ use std::str;
 pub(crate) fn behind<'a>(text: &'a [u8], front: &[u8]) -> Option<&'a [u8]>
     ensures some { IfSome result (λ rest. text.now ≡ front.now ++ rest.now) }
     ensures none { IfNone result ((rest : List ℕ) → text.now ≢ front.now ++ rest) }
+    ensures small { length text.now < 2 ^ 64 }
 {
     if text.len() < front.len() {
         return None;

@@ -42,8 +42,9 @@ pub fn read_order(alloc: Global, text: &[u8]) -> Result<Option<Order>, NoMemory>
 
 /// The number behind a name, and what stands behind its line.
 fn count_behind<'a>(text: &'a [u8], name: &[u8]) -> Option<(u64, &'a [u8])>
-    ensures some { IfSome result (λ r. text.now ≡ name.now ++ (decimal r.0 ++ (10 ∷ r.1.now))) }
+    ensures some { IfSome result (λ r. (text.now ≡ name.now ++ (decimal r.0 ++ (10 ∷ r.1.now))) × (r.0 < 2 ^ 64)) }
     ensures none { IfNone result ((n : ℕ) (rest : List ℕ) → n < 2 ^ 64 → text.now ≢ name.now ++ (decimal n ++ (10 ∷ rest))) }
+    ensures small { length text.now < 2 ^ 64 }
 {
     let number = behind(text, name)?;
     number_before(number, b'\n', u64::MAX)
