@@ -1,5 +1,5 @@
 -- Lines in order.
-use Rattle.std.proofs.Common.{◌≡◌, ◌≢◌, ℕ, zero, suc, ◌+◌, ◌-◌, ◌<◌, ◌≤◌, ◌⊎◌, ⊎_elim, inl, inr, List, [], ◌∷◌, length, get_or, set, sym, refl, ap, ◌∙◌, subst, arith}
+use Rattle.std.proofs.Common.{◌≡◌, ℕ, zero, suc, ◌+◌, ◌-◌, ◌<◌, ◌≤◌, ⊎_elim, inl, inr, List, [], ◌∷◌, length, get_or, set, sym, refl, ap, ◌∙◌, subst, arith}
 use Rattle.std.specs.List.{AllPairs}
 use Rattle.std.proofs.lemmas.List.{get_or-set_same, get_or-set_other}
 use Rattle.std.proofs.lemmas.Bool.{cases_lt}
@@ -51,27 +51,27 @@ pub seen-more : (lines : List (Line Fate)) (least : List ℕ) (n : ℕ) (l : Lin
     → l.sender < length least → get_or least l.sender 0 ≤ l.index → Seen lines (set least l.sender (l.index + 1)) (n + 1)
 seen-more lines least n l h m is at fits high = record {
   pairs = λ i j d lt below. ⊎_elim
-    (λ b. h.pairs i j d lt b)
-    (λ b. let e : j ≡ n = omega arith in λ same.
+      (λ b. h.pairs i j d lt b)
+      (λ b. let e : j ≡ n = omega arith in λ same.
       let last : get_or lines j d ≡ l = ap (λ (z : ℕ). get_or lines z d) e ∙ at d in
       let k = h.bound i d (omega arith) in
       let s : (get_or lines i d).sender ≡ l.sender = same ∙ ap (λ (z : Line Fate). z.sender) last in
       let r : get_or least (get_or lines i d).sender 0 ≡ get_or least l.sender 0 = ap (λ (z : ℕ). get_or least z 0) s in
       let t = ap (λ (z : Line Fate). z.index) last in omega arith)
-    (cases_lt j n);
+      (cases_lt j n);
   bound = λ k d below. ⊎_elim
-    (λ b. let old = h.bound k d b in dite (ℕ_discrete (get_or lines k d).sender l.sender)
+      (λ b. let old = h.bound k d b in dite (ℕ_discrete (get_or lines k d).sender l.sender)
       (λ same. let r : get_or least (get_or lines k d).sender 0 ≡ get_or least l.sender 0 = ap (λ (z : ℕ). get_or least z 0) same in
-        let w : get_or (set least l.sender (l.index + 1)) (get_or lines k d).sender 0 ≡ l.index + 1 = ap (λ (z : ℕ). get_or (set least l.sender (l.index + 1)) z 0) same ∙ get_or-set_same least l.sender (l.index + 1) 0 fits in omega arith)
+      let w : get_or (set least l.sender (l.index + 1)) (get_or lines k d).sender 0 ≡ l.index + 1 = ap (λ (z : ℕ). get_or (set least l.sender (l.index + 1)) z 0) same ∙ get_or-set_same least l.sender (l.index + 1) 0 fits in omega arith)
       (λ other. let w = get_or-set_other least l.sender (get_or lines k d).sender (l.index + 1) 0 other in omega arith))
-    (λ b. let e : k ≡ n = omega arith in
+      (λ b. let e : k ≡ n = omega arith in
       let last : get_or lines k d ≡ l = ap (λ (z : ℕ). get_or lines z d) e ∙ at d in
       let w : get_or (set least l.sender (l.index + 1)) (get_or lines k d).sender 0 ≡ l.index + 1 = ap (λ (z : Line Fate). get_or (set least l.sender (l.index + 1)) z.sender 0) last ∙ get_or-set_same least l.sender (l.index + 1) 0 fits in
       let t = ap (λ (z : Line Fate). z.index) last in omega arith)
-    (cases_lt k n);
+      (cases_lt k n);
   reached = λ s d some. dite (ℕ_discrete s l.sender)
-    (λ same. let w : get_or (set least l.sender (l.index + 1)) s 0 ≡ l.index + 1 = ap (λ (z : ℕ). get_or (set least l.sender (l.index + 1)) z 0) same ∙ get_or-set_same least l.sender (l.index + 1) 0 fits in
+      (λ same. let w : get_or (set least l.sender (l.index + 1)) s 0 ≡ l.index + 1 = ap (λ (z : ℕ). get_or (set least l.sender (l.index + 1)) z 0) same ∙ get_or-set_same least l.sender (l.index + 1) 0 fits in
       (n, omega arith, ap (λ (z : Line Fate). z.sender) (at d) ∙ sym same, ap (λ (z : Line Fate). z.index + 1) (at d) ∙ sym w))
-    (λ other. let w = get_or-set_other least l.sender s (l.index + 1) 0 other in
+      (λ other. let w = get_or-set_other least l.sender s (l.index + 1) 0 other in
       let (k, lt, of, top) = h.reached s d (omega arith) in (k, omega arith, of, top ∙ sym w));
 }

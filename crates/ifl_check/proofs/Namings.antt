@@ -1,5 +1,5 @@
 -- Counts of the lines that name a record.
-use Rattle.std.proofs.Common.{◌≡◌, ◌≢◌, ℕ, zero, suc, ◌+◌, ◌-◌, ◌<◌, ◌≤◌, ◌⊎◌, ⊎_elim, inl, inr, Bool, true, false, ◌&&◌, nat_eq, eq-eqb, ne_eqb, eqb-true, List, [], ◌∷◌, ◌++◌, length, get_or, set, take, drop, cond, sym, refl, ap, ◌∙◌, subst, arith}
+use Rattle.std.proofs.Common.{◌≡◌, ◌≢◌, ℕ, zero, suc, ◌+◌, ◌<◌, ◌≤◌, ◌⊎◌, ⊎_elim, inl, inr, Bool, true, false, nat_eq, eq-eqb, eqb-true, List, [], ◌∷◌, length, get_or, set, take, cond, sym, refl, ap, ◌∙◌, subst, arith}
 use Rattle.std.specs.List.{AllWithin, All, Any, count_by, list_all}
 use Rattle.std.proofs.lemmas.Bool.{cases_lt, and_parts}
 use Rattle.std.proofs.lemmas.List.{length-map, length-set, get_or_default, get_or-set_same, get_or-set_other}
@@ -65,16 +65,16 @@ pub counts-more : {T : Type 0} (files : List (List Frame)) (old marks : List ℕ
     → Counts files old marks (take n lines) → Counts files old (set marks (place files l.sender l.index) 1) (take (n + 1) lines)
 counts-more files old marks lines n l lt is sized rec free h s k r = ⊎_elim
     (λ t. let e = named-is s k l t in
-      let here : place files s k ≡ place files l.sender l.index = (λ i. place files (sym e.0 i) (sym e.1 i)) in
-      let fits = place-within files l.sender l.index rec in
-      let w : get_or (set marks (place files l.sender l.index) 1) (place files s k) 0 ≡ 1 = ap (λ (z : ℕ). get_or (set marks (place files l.sender l.index) 1) z 0) here ∙ get_or-set_same marks (place files l.sender l.index) 1 0 (omega arith) in
-      let c = count_by_more_yes (is_named s k) lines n l lt (ap (is_named s k) (sym is) ∙ t) in
-      let before = h s k r in let f : get_or marks (place files s k) 0 ≡ 0 = ap (λ (z : ℕ). get_or marks z 0) here ∙ free in omega arith)
+    let here : place files s k ≡ place files l.sender l.index = (λ i. place files (sym e.0 i) (sym e.1 i)) in
+    let fits = place-within files l.sender l.index rec in
+    let w : get_or (set marks (place files l.sender l.index) 1) (place files s k) 0 ≡ 1 = ap (λ (z : ℕ). get_or (set marks (place files l.sender l.index) 1) z 0) here ∙ get_or-set_same marks (place files l.sender l.index) 1 0 (omega arith) in
+    let c = count_by_more_yes (is_named s k) lines n l lt (ap (is_named s k) (sym is) ∙ t) in
+    let before = h s k r in let f : get_or marks (place files s k) 0 ≡ 0 = ap (λ (z : ℕ). get_or marks z 0) here ∙ free in omega arith)
     (λ t. let ne : place files s k ≢ place files l.sender l.index = λ e. (let u = place-same files s k l.sender l.index r rec e in
-        let g : true ≡ false = sym (named-itself l) ∙ ((λ i. is_named (sym u.0 i) (sym u.1 i) l) ∙ t) in absurd cc) in
-      let w = get_or-set_other marks (place files l.sender l.index) (place files s k) 1 0 ne in
-      let c = count_by_more_no (is_named s k) lines n l lt (ap (is_named s k) (sym is) ∙ t) in
-      let before = h s k r in omega arith)
+    let g : true ≡ false = sym (named-itself l) ∙ ((λ i. is_named (sym u.0 i) (sym u.1 i) l) ∙ t) in absurd cc) in
+    let w = get_or-set_other marks (place files l.sender l.index) (place files s k) 1 0 ne in
+    let c = count_by_more_no (is_named s k) lines n l lt (ap (is_named s k) (sym is) ∙ t) in
+    let before = h s k r in omega arith)
     (bool_cases (is_named s k l))
 
 -- why marking stops
@@ -107,8 +107,8 @@ pub stops-away : (files : List (List Frame)) (zero_marks old : List ℕ) (accept
 stops-away files zero_marks old accepted turned zeros counts (i, l, lt, is, why) h = ⊎_elim
     (λ never. let c = count-named turned i l lt (sym is) in let e = h.others l.sender l.index never in absurd (omega arith))
     (λ two. dite (dec_le (suc l.index) (length (get_or files l.sender [])))
-      (λ r. let z = zeros l.sender l.index in let c = counts l.sender l.index r in let e = h.once l.sender l.index r in absurd (omega arith))
-      (λ never. let c = count-named turned i l lt (sym is) in let e = h.others l.sender l.index never in absurd (omega arith)))
+    (λ r. let z = zeros l.sender l.index in let c = counts l.sender l.index r in let e = h.once l.sender l.index r in absurd (omega arith))
+    (λ never. let c = count-named turned i l lt (sym is) in let e = h.others l.sender l.index never in absurd (omega arith)))
     why
 
 all-ones : (marks : List ℕ) → list_all (λ m. nat_eq m 1) marks ≡ true → (p : ℕ) → p < length marks → get_or marks p 0 ≡ 1
@@ -145,16 +145,16 @@ pub mark-more : {T : Type 0} (files : List (List Frame)) (old marks : List ℕ) 
     → Counts files old marks (take n lines) → AllWithin (λ x. IsRecordAt files x.sender x.index) lines 0 n
     → (length (set marks p 1) ≡ length old) × Counts files old (set marks p 1) (take (n + 1) lines) × AllWithin (λ x. IsRecordAt files x.sender x.index) lines 0 (n + 1)
 mark-more {T} files old marks lines n l p lt is sized same rec at free counts within = (
-      length-set marks p 1 ∙ same,
-      subst (λ (z : ℕ). Counts files old (set marks z 1) (take (n + 1) lines)) (sym at)
+  length-set marks p 1 ∙ same,
+  subst (λ (z : ℕ). Counts files old (set marks z 1) (take (n + 1) lines)) (sym at)
       (counts-more files old marks lines n l lt is sized rec (ap (λ (z : ℕ). get_or marks z 0) (sym at) ∙ free) counts),
-      (λ k d low high. ⊎_elim
-        (λ below. within k d low below)
-        (λ above. let e : k ≡ n = omega arith in
-          let here : get_or lines k d ≡ l = ap (λ (z : ℕ). get_or lines z d) e ∙ (get_or_default lines n d l lt ∙ sym is) in
-          subst (λ (z : Line T). IsRecordAt files z.sender z.index) (sym here) rec)
-        (cases_lt k n)),
-    )
+  (λ k d low high. ⊎_elim
+      (λ below. within k d low below)
+      (λ above. let e : k ≡ n = omega arith in
+      let here : get_or lines k d ≡ l = ap (λ (z : ℕ). get_or lines z d) e ∙ (get_or_default lines n d l lt ∙ sym is) in
+      subst (λ (z : Line T). IsRecordAt files z.sender z.index) (sym here) rec)
+      (cases_lt k n)),
+)
 
 -- lines that name records name files
 pub senders-within : {T : Type 0} (cs : List Capture) (lines : List (Line T)) → All (λ l. IsRecordAt (each_frames cs) l.sender l.index) lines → All (λ l. l.sender < length cs) lines

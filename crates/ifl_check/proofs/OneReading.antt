@@ -1,10 +1,12 @@
 -- What is written of lines is read in one way.
-use Rattle.std.proofs.Common.{◌≡◌, ◌≢◌, ℕ, zero, suc, ◌+◌, ◌^◌, ◌<◌, ◌≤◌, Bool, true, false, not, ◌&&◌, nat_eq, eq-eqb, List, [], ◌∷◌, ◌++◌, length, length-append, get_or, sym, refl, ap, ◌∙◌, subst, arith}
+use Rattle.std.proofs.Common.{◌≡◌, ◌≢◌, ℕ, suc, ◌+◌, ◌^◌, ◌<◌, ◌≤◌, true, not, nat_eq, eq-eqb, List, [], ◌∷◌, ◌++◌, length, length-append, get_or, sym, refl, ap, ◌∙◌, subst, arith}
 use Rattle.std.specs.Prelude.{codes, decimal}
 use Rattle.std.specs.List.{All, flat_map, list_all}
 use Rattle.std.proofs.lemmas.Bool.{and_parts}
 use Rattle.std.proofs.lemmas.List.{append_cancel_left, append-nil}
+use Rattle.std.proofs.lemmas.Grind.{flat_map-append}
 use Rattle.std.proofs.lemmas.List.Concat.{flat_map-cons}
+use Rattle.std.proofs.lemmas.List.Elements.{All-push}
 use mathlib.Core.List.{append_assoc}
 use Rattle.ifl_base.specs.declared.fate.Fate.{Fate}
 use Rattle.ifl_base.specs.declared.fate.Fate.TheVariants as fate
@@ -256,8 +258,18 @@ order-read text r1 r2 r3 r4 m n xs us p1 p2 lx fx p3 p4 lu fu p5 = record {
   accepted_fit = fx;
   away_fit = fu;
   reads =
-    let e3 : r3 ≡ flat_map (line_text away_text) us = p4 ∙ (ap (λ (z : List ℕ). flat_map (line_text away_text) us ++ z) p5 ∙ append-nil (flat_map (line_text away_text) us)) in
-    let e2 : r2 ≡ codes "away " ++ (decimal (length us) ++ (10 ∷ flat_map (line_text away_text) us)) = p3 ∙ (λ i. codes "away " ++ (decimal (sym lu i) ++ (10 ∷ e3 i))) in
-    let e1 : r1 ≡ lines_and_away xs us = p2 ∙ ap (λ (z : List ℕ). flat_map (line_text fate_text) xs ++ z) e2 in
-    order-parts xs us ∙ sym (p1 ∙ (λ i. codes "accepted " ++ (decimal (sym lx i) ++ (10 ∷ e1 i))));
+      let e3 : r3 ≡ flat_map (line_text away_text) us = p4 ∙ (ap (λ (z : List ℕ). flat_map (line_text away_text) us ++ z) p5 ∙ append-nil (flat_map (line_text away_text) us)) in
+      let e2 : r2 ≡ codes "away " ++ (decimal (length us) ++ (10 ∷ flat_map (line_text away_text) us)) = p3 ∙ (λ i. codes "away " ++ (decimal (sym lu i) ++ (10 ∷ e3 i))) in
+      let e1 : r1 ≡ lines_and_away xs us = p2 ∙ ap (λ (z : List ℕ). flat_map (line_text fate_text) xs ++ z) e2 in
+      order-parts xs us ∙ sym (p1 ∙ (λ i. codes "accepted " ++ (decimal (sym lx i) ++ (10 ∷ e1 i))));
 }
+
+-- one more line is read
+pub read-more : {X : Type 0} (text_of : X → List ℕ) (Fits : X → Type 0) (text rest behind : List ℕ) (xs new : List X) (x : X) (n : ℕ) → text ≡ flat_map text_of xs ++ rest → rest ≡ text_of x ++ behind → new ≡ xs ++ (x ∷ [])
+    → length xs ≡ n → All Fits xs → Fits x → (text ≡ flat_map text_of new ++ behind) × (length new ≡ n + 1) × All Fits new
+read-more {X} text_of Fits text rest behind xs new x n a b grown sized all fit =
+    let more : flat_map text_of new ≡ flat_map text_of xs ++ text_of x = ap (flat_map text_of) grown ∙ (flat_map-append text_of xs (x ∷ []) ∙ ap (λ (z : List ℕ). flat_map text_of xs ++ z) (flat_map-cons text_of x [] ∙ append-nil (text_of x))) in (
+      a ∙ (ap (λ (z : List ℕ). flat_map text_of xs ++ z) b ∙ (sym (append_assoc (flat_map text_of xs) (text_of x) behind) ∙ ap (λ (z : List ℕ). z ++ behind) (sym more))),
+      ap (λ (z : List X). length z) grown ∙ (let l = length-append xs (x ∷ []) in omega arith),
+      subst (All Fits) (sym grown) (All-push Fits xs x all fit),
+    )

@@ -1,5 +1,5 @@
 -- The records on the wire, one after another.
-use Rattle.std.proofs.Common.{◌≡◌, ◌≢◌, ℕ, ◌+◌, ◌/◌, ◌%◌, ◌^◌, ◌<◌, ◌≤◌, List, [], ◌∷◌, ◌++◌, length, get_or, take, drop, sym, refl, ap, ◌∙◌, arith}
+use Rattle.std.proofs.Common.{◌≡◌, ℕ, ◌+◌, ◌%◌, ◌<◌, ◌≤◌, List, [], ◌∷◌, ◌++◌, length, get_or, take, drop, sym, refl, ap, ◌∙◌, arith}
 use Rattle.std.specs.Int.{byte_at}
 use Rattle.std.specs.List.{flat_map}
 use Rattle.std.proofs.Math.Seq.{take-length}
@@ -28,10 +28,10 @@ pub rest-flat_map : {X A : Type 0} (f : X → List A) (xs : List X) (i : ℕ) (d
     → rest ≡ f (get_or xs i d) ++ flat_map f (drop (i + 1) xs)
 rest-flat_map {A = A} f xs i d text front rest lt a b =
     let split : flat_map f xs ≡ flat_map f (take i xs) ++ (f (get_or xs i d) ++ flat_map f (drop (i + 1) xs)) =
-      ap (flat_map f) (sym (take-append-drop (i + 1) xs)) ∙ flat_map-append f (take (i + 1) xs) (drop (i + 1) xs)
-      ∙ ap (λ (z : List A). z ++ flat_map f (drop (i + 1) xs)) (ap (flat_map f) (take_more xs i d lt) ∙ flat_map-append f (take i xs) (get_or xs i d ∷ [])
-      ∙ ap (λ (z : List A). flat_map f (take i xs) ++ z) (flat_map-cons f (get_or xs i d) [] ∙ append-nil (f (get_or xs i d))))
-      ∙ append_assoc (flat_map f (take i xs)) (f (get_or xs i d)) (flat_map f (drop (i + 1) xs)) in
+    ap (flat_map f) (sym (take-append-drop (i + 1) xs)) ∙ flat_map-append f (take (i + 1) xs) (drop (i + 1) xs)
+    ∙ ap (λ (z : List A). z ++ flat_map f (drop (i + 1) xs)) (ap (flat_map f) (take_more xs i d lt) ∙ flat_map-append f (take i xs) (get_or xs i d ∷ [])
+    ∙ ap (λ (z : List A). flat_map f (take i xs) ++ z) (flat_map-cons f (get_or xs i d) [] ∙ append-nil (f (get_or xs i d))))
+    ∙ append_assoc (flat_map f (take i xs)) (f (get_or xs i d)) (flat_map f (drop (i + 1) xs)) in
     append_cancel_left (flat_map f (take i xs)) rest _ (append_cancel_left front _ _ (sym a ∙ b) ∙ split)
 
 -- one more element
@@ -39,8 +39,8 @@ pub more-flat_map : {X A : Type 0} (f : X → List A) (xs : List X) (i : ℕ) (d
     → text ≡ front ++ (flat_map f (take (i + 1) xs) ++ others)
 more-flat_map {A = A} f xs i d text front rest others lt a b =
     let grown : flat_map f (take (i + 1) xs) ≡ flat_map f (take i xs) ++ f (get_or xs i d) =
-      ap (flat_map f) (take_more xs i d lt) ∙ flat_map-append f (take i xs) (get_or xs i d ∷ [])
-      ∙ ap (λ (z : List A). flat_map f (take i xs) ++ z) (flat_map-cons f (get_or xs i d) [] ∙ append-nil (f (get_or xs i d))) in
+    ap (flat_map f) (take_more xs i d lt) ∙ flat_map-append f (take i xs) (get_or xs i d ∷ [])
+    ∙ ap (λ (z : List A). flat_map f (take i xs) ++ z) (flat_map-cons f (get_or xs i d) [] ∙ append-nil (f (get_or xs i d))) in
     a ∙ ap (λ (z : List A). front ++ z) (ap (λ (z : List A). flat_map f (take i xs) ++ z) b ∙ sym (append_assoc (flat_map f (take i xs)) (f (get_or xs i d)) others) ∙ ap (λ (z : List A). z ++ others) (sym grown))
 
 -- all elements, and nothing behind them

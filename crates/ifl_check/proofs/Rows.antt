@@ -1,5 +1,5 @@
 -- The places of records in one row.
-use Rattle.std.proofs.Common.{◌≡◌, ◌≢◌, ℕ, zero, suc, ◌+◌, ◌-◌, ◌<◌, ◌≤◌, ◌⊎◌, ⊎_elim, inl, inr, List, [], ◌∷◌, ◌++◌, length, length-append, get_or, map, sym, refl, ap, ◌∙◌, subst, arith}
+use Rattle.std.proofs.Common.{◌≡◌, ℕ, zero, suc, ◌+◌, ◌-◌, ◌<◌, ◌≤◌, ⊎_elim, List, [], ◌∷◌, ◌++◌, length, length-append, get_or, sym, refl, ap, ◌∙◌, arith}
 use Rattle.std.specs.List.{sum_by}
 use Rattle.std.proofs.lemmas.Bool.{cases_lt}
 use Rattle.std.proofs.Math.Numerals.{add-one}
@@ -41,7 +41,7 @@ place-onto [] p h = absurd (omega arith)
 place-onto (fs ∷ files) p h = ⊎_elim
     (λ l. (0, p, l, refl))
     (λ l. let e = sum_by-cons (λ (x : List Frame). length x) fs files in
-      let (s, k, r, is) = place-onto files (p - length fs) (omega arith) in (suc s, k, r, omega arith))
+    let (s, k, r, is) = place-onto files (p - length fs) (omega arith) in (suc s, k, r, omega arith))
     (cases_lt p (length fs))
 
 -- the files up to one
@@ -101,10 +101,11 @@ next-file cs i x lt is =
 
 pub starts-more : (files : List (List Frame)) (starts new : List ℕ) (n total : ℕ) → ((s : ℕ) → s < n → get_or starts s 0 ≡ place files s 0) → length starts ≡ n → total ≡ place files n 0 → new ≡ starts ++ (total ∷ [])
     → ((s : ℕ) → s < n + 1 → get_or new s 0 ≡ place files s 0) × (length new ≡ n + 1)
-starts-more files starts new n total h sized is grown =
-    (λ s lt. ⊎_elim
+starts-more files starts new n total h sized is grown = (
+  λ s lt. ⊎_elim
       (λ below. ap (λ (z : List ℕ). get_or z s 0) grown ∙ (get_or_append_left starts (total ∷ []) 0 s (omega arith) ∙ h s below))
       (λ above. let e : s ≡ length starts = omega arith in let m : s ≡ n = omega arith in
-        ap (λ (z : List ℕ). get_or z s 0) grown ∙ (ap (λ (z : ℕ). get_or (starts ++ (total ∷ [])) z 0) e ∙ (get_or-append_seam starts total [] 0 ∙ (is ∙ ap (λ (z : ℕ). place files z 0) (sym m)))))
+      ap (λ (z : List ℕ). get_or z s 0) grown ∙ (ap (λ (z : ℕ). get_or (starts ++ (total ∷ [])) z 0) e ∙ (get_or-append_seam starts total [] 0 ∙ (is ∙ ap (λ (z : ℕ). place files z 0) (sym m)))))
       (cases_lt s n),
-    ap (λ (z : List ℕ). length z) grown ∙ (let a = length-append starts (total ∷ []) in omega arith))
+  ap (λ (z : List ℕ). length z) grown ∙ (let a = length-append starts (total ∷ []) in omega arith),
+)

@@ -1,5 +1,5 @@
 -- One clause fails first, or none does.
-use Rattle.std.proofs.Common.{◌≡◌, ℕ, ◌^◌, ◌<◌, ◌⊎◌, ⊎_elim, inl, inr, List, length, sym, subst, ◌∙◌}
+use Rattle.std.proofs.Common.{◌≡◌, ℕ, ◌^◌, ◌<◌, ⊎_elim, List, length, sym, subst, ◌∙◌}
 use Rattle.ifl_base.specs.declared.fate.Fate.{Fate}
 use Rattle.ifl_base.specs.declared.fate.Away.{Away}
 use Rattle.ifl_pcap.specs.declared.frame.Frame.{Frame}
@@ -29,14 +29,14 @@ pub verdict-once : (terms : Terms) (files : List (List Frame)) (wire text : List
 verdict-once terms files wire text m n small h g = ⊎_elim
     (λ x. ⊎_elim (λ y. x.0 ∙ sym y.0) (λ (ys, vs, is, y). absurd (x.1 ys vs is)) g)
     (λ (xs, us, at, x). ⊎_elim (λ y. absurd (y.1 xs us at))
-      (λ (ys, vs, is, y). let same = order-once text ys xs vs us small is at in
-        fails-once terms files wire xs us m n x (subst (λ (z : List (Line Away)). FailsOfLines terms files wire xs z n) same.1 (subst (λ (z : List (Line Fate)). FailsOfLines terms files wire z vs n) same.0 y)))
-      g)
+    (λ (ys, vs, is, y). let same = order-once text ys xs vs us small is at in
+    fails-once terms files wire xs us m n x (subst (λ (z : List (Line Away)). FailsOfLines terms files wire xs z n) same.1 (subst (λ (z : List (Line Fate)). FailsOfLines terms files wire z vs n) same.0 y)))
+    g)
     h
 
 pub verdict-never : (terms : Terms) (files : List (List Frame)) (wire text : List ℕ) (n : ℕ) → length text < 2 ^ 64 → FirstFailing terms files wire text n → AllHold terms files wire text → ⊥
 verdict-never terms files wire text n small h (xs, us, at, all) = ⊎_elim
     (λ y. y.1 xs us at)
     (λ (ys, vs, is, y). let same = order-once text ys xs vs us small is at in
-      fails-never terms files wire xs us n all (subst (λ (z : List (Line Away)). FailsOfLines terms files wire xs z n) same.1 (subst (λ (z : List (Line Fate)). FailsOfLines terms files wire z vs n) same.0 y)))
+    fails-never terms files wire xs us n all (subst (λ (z : List (Line Away)). FailsOfLines terms files wire xs z n) same.1 (subst (λ (z : List (Line Fate)). FailsOfLines terms files wire z vs n) same.0 y)))
     h

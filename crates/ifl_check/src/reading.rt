@@ -119,7 +119,14 @@ fn accepted_line(text: &[u8]) -> Option<(Line<Fate>, &[u8])>
     let (sender, index, behind) = named(text)?;
     let (name, rest) = cut(behind, b'\n')?;
     let what = fate(name)?;
-    Some((Line { sender, index, what }, rest))
+    Some((
+        Line {
+            sender,
+            index,
+            what,
+        },
+        rest,
+    ))
 }
 
 /// The away line at the front of the text, and what stands behind it.
@@ -130,5 +137,12 @@ fn away_line(text: &[u8]) -> Option<(Line<Away>, &[u8])>
     let (sender, index, behind) = named(text)?;
     let (name, rest) = cut(behind, b'\n')?;
     let what = away(name)?;
-    Some((Line { sender, index, what }, rest))
+    Some((
+        Line {
+            sender,
+            index,
+            what,
+        },
+        rest,
+    ))
 }

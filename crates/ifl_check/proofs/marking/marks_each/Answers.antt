@@ -1,4 +1,4 @@
-use Rattle.std.proofs.Common.{◌≡◌, ◌∙◌, refl, sym, ap}
+use Rattle.std.proofs.Common.{◌∙◌, sym}
 use Rattle.ifl_check.specs.Files.{each_frames}
 use Rattle.ifl_check.specs.Places.{place}
 use Rattle.ifl_check.proofs.Namings.{stops-accepted, stops-away, once-ones, once-not_ones, senders-within}

@@ -1,4 +1,4 @@
-use Rattle.std.proofs.Common.{◌≡◌, ◌∙◌, ◌<◌, ◌+◌, ◌^◌, sym, arith, length}
+use Rattle.std.proofs.Common.{arith}
 use Rattle.ifl_check.specs.Files.{each_frames, IsRecordAt}
 use Rattle.ifl_check.proofs.Rows.{place-start}
 use Rattle.ifl_check.proofs.marking.place_of.Goals as goal

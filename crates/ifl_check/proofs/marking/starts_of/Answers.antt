@@ -1,4 +1,4 @@
-use Rattle.std.proofs.Common.{◌≡◌, ◌∙◌, ◌<◌, ◌≤◌, ◌+◌, ◌^◌, ℕ, sym, ap, arith, length}
+use Rattle.std.proofs.Common.{◌≡◌, ◌∙◌, ℕ, sym, ap, arith, length}
 use Rattle.std.proofs.lemmas.List.{length-map}
 use Rattle.ifl_pcap.specs.declared.capture.Capture.{Capture}
 use Rattle.ifl_check.specs.Files.{each_frames}
@@ -19,7 +19,7 @@ loop-capture-preserved c =
     let t = next-file c.args.captures.now c.loop-capture.capture-index c.capture-item.result c.loop-capture-test.true c.capture-item.is in
     let next = t.0 in let total = c.loop-capture.invariant.2 in let l = c.len-total.ensures in
     let m = starts-more (each_frames c.args.captures.now) c.loop-capture.starts.items c.push.new.self.items c.loop-capture.capture-index c.loop-capture.total
-      c.loop-capture.invariant.0 c.loop-capture.invariant.1 total c.in_ok-push.ensures.items in
+    c.loop-capture.invariant.0 c.loop-capture.invariant.1 total c.in_ok-push.ensures.items in
     (m.0, m.1, omega arith)
 
 pub returns-clause-total : goal.returns-clause-total

@@ -1,4 +1,4 @@
-use Rattle.std.proofs.Common.{◌≡◌, ◌-◌, ◌<◌, arith, get_or, subst}
+use Rattle.std.proofs.Common.{◌-◌, arith, get_or, subst}
 use Rattle.ifl_base.specs.declared.fate.Away.TheVariants as away
 use Rattle.ifl_base.specs.declared.fate.Away.{Away}
 use Rattle.ifl_check.specs.declared.line.Line.{Line}

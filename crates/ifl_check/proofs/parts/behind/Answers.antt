@@ -1,4 +1,4 @@
-use Rattle.std.proofs.Common.{◌≡◌, ◌∙◌, ◌++◌, ap, sym, take, length, List, ℕ, false}
+use Rattle.std.proofs.Common.{◌∙◌, ap, sym, List, ℕ}
 use Rattle.std.specs.Str.{bytes_eq}
 use Rattle.ifl_check.proofs.Fronts.{no_front}
 use Rattle.ifl_check.proofs.parts.behind.Goals as goal

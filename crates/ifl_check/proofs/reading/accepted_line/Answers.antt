@@ -1,4 +1,4 @@
-use Rattle.std.proofs.Common.{◌≡◌, ◌∙◌, sym}
+use Rattle.std.proofs.Common.{◌∙◌, sym}
 use Rattle.ifl_check.specs.Text.{fate_text}
 use Rattle.ifl_check.proofs.Absent.{if_none}
 use Rattle.ifl_check.proofs.Fronts.{not_behind, cut-same}

@@ -1,4 +1,4 @@
-use Rattle.std.proofs.Common.{◌≡◌, ◌∙◌, sym, arith}
+use Rattle.std.proofs.Common.{◌∙◌, sym, arith}
 use Rattle.ifl_check.specs.Text.{number_then}
 use Rattle.ifl_check.proofs.Absent.{if_none}
 use Rattle.ifl_check.proofs.OneReading.{then-same}

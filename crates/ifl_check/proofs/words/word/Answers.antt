@@ -1,4 +1,4 @@
-use Rattle.std.proofs.Common.{◌≡◌, ◌∙◌, ◌^◌, ◌<◌, sym, arith}
+use Rattle.std.proofs.Common.{◌∙◌, sym, arith}
 use Rattle.ifl_check.proofs.Absent.{if_none}
 use Rattle.ifl_check.proofs.OneReading.{then-same}
 use Rattle.ifl_check.proofs.words.word.Goals as goal
