@@ -1,5 +1,5 @@
 -- Lines in order.
-use Rattle.std.proofs.Common.{◌≡◌, ℕ, zero, suc, ◌+◌, ◌-◌, ◌<◌, ◌≤◌, ⊎_elim, inl, inr, List, [], ◌∷◌, length, get_or, set, sym, refl, ap, ◌∙◌, subst, arith}
+use Rattle.std.proofs.Common.{◌≡◌, ℕ, ◌+◌, ◌-◌, ◌<◌, ◌≤◌, ⊎_elim, inl, inr, List, length, get_or, set, sym, ap, ◌∙◌, subst, arith}
 use Rattle.std.specs.List.{AllPairs}
 use Rattle.std.proofs.lemmas.List.{get_or-set_same, get_or-set_other}
 use Rattle.std.proofs.lemmas.Bool.{cases_lt}
@@ -9,12 +9,6 @@ use Rattle.ifl_base.specs.declared.fate.Fate.{Fate}
 use Rattle.ifl_base.specs.declared.fate.Away.{Away}
 use Rattle.ifl_check.specs.declared.line.Line.{Line}
 use Rattle.ifl_check.specs.InOrder.{IsBefore, IsSorted}
-
--- an element that is there, whatever stands for one that is not
-pub get_or-any : {X : Type 0} (xs : List X) (i : ℕ) (d e : X) → i < length xs → get_or xs i d ≡ get_or xs i e
-get_or-any [] i d e h = absurd (omega arith)
-get_or-any (x ∷ xs) zero d e h = refl
-get_or-any (x ∷ xs) (suc i) d e h = get_or-any xs i d e (omega arith)
 
 sorted-trans : (a b c : Line Away) → IsSorted a b → IsSorted b c → IsSorted a c
 sorted-trans a b c h k = ⊎_elim

@@ -1,12 +1,12 @@
 -- Texts with the same front, and what stands behind it.
-use Rattle.std.proofs.Common.{◌≡◌, ◌≢◌, ℕ, ◌^◌, ◌<◌, true, false, List, [], ◌∷◌, ◌++◌, length, get_or, take, sym, refl, ap, ◌∙◌, subst, arith}
+use Rattle.std.proofs.Common.{◌==◌, ◌≡◌, ◌≢◌, ℕ, ◌^◌, ◌<◌, true, false, List, [], ◌∷◌, ◌++◌, length, get_or, take, sym, refl, ap, ◌∙◌, subst, arith}
 use Rattle.std.specs.Prelude.{decimal}
 use Rattle.std.specs.Str.{bytes_eq}
 use Rattle.std.specs.Str.Parse.{AllDigits}
 use Rattle.std.proofs.Math.Seq.{take-append_seam}
+use Rattle.std.proofs.lemmas.Bool.Decides.{nat_tests}
 use Rattle.std.proofs.lemmas.Fmt.{decimal_is_IsNumeral, decimal_injective}
 use Rattle.std.proofs.lemmas.List.{append_cancel_left}
-use Rattle.std.proofs.lemmas.List.Prefix.{front_fits}
 use Rattle.std.proofs.lemmas.Slice.Eq.{bytes_eq-Decides}
 use Rattle.std.proofs.lemmas.Str.Parse.{digit_from_value}
 use mathlib.Core.List.{append_assoc}
@@ -16,9 +16,6 @@ pub no_front : (text front : List ℕ) → bytes_eq (take (length front) text) f
 no_front text front e rest is =
     let t : bytes_eq (take (length front) text) front ≡ true = (bytes_eq-Decides (take (length front) text) front).1 (ap (take (length front)) is ∙ take-append_seam front rest) in
     let f : true ≡ false = sym t ∙ e in absurd cc
-
-pub too_short : (text front rest : List ℕ) → length text < length front → text ≢ front ++ rest
-too_short text front rest l is = absurd (omega (arith, l, front_fits text front rest is))
 
 -- a front, and then what does not begin the rest
 pub behind_front : (text a b rest : List ℕ) → text ≡ a ++ rest → ((more : List ℕ) → rest ≢ b ++ more) → (more : List ℕ) → text ≢ (a ++ b) ++ more
@@ -77,3 +74,10 @@ five_parts text a b c d e r1 r2 r3 r4 rest p1 p2 p3 p4 p5 =
     let q3 = p3 ∙ (ap (λ (z : List ℕ). c ++ z) q4 ∙ sym (append_assoc c (d ++ e) rest)) in
     let q2 = p2 ∙ (ap (λ (z : List ℕ). b ++ z) q3 ∙ sym (append_assoc b (c ++ (d ++ e)) rest)) in
     p1 ∙ (ap (λ (z : List ℕ). a ++ z) q2 ∙ sym (append_assoc a (b ++ (c ++ (d ++ e))) rest))
+
+-- the tests of a length
+pub empty : (n : ℕ) → (n == 0) ≡ true → n ≡ 0
+empty n e = grind (arith, nat_tests)
+
+pub not_empty : (n : ℕ) → (n == 0) ≡ false → n ≡ 0 → ⊥
+not_empty n e = grind (arith, nat_tests)

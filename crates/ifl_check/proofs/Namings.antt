@@ -32,12 +32,6 @@ count_by-pass {X} p x xs h = let e : count_by p (x ∷ xs) ≡ 1 + count_by p xs
 pub count_by-fail : {X : Type 0} (p : X → Bool) (x : X) (xs : List X) → p x ≡ false → count_by p (x ∷ xs) ≡ count_by p xs
 count_by-fail {X} p x xs h = let e : count_by p (x ∷ xs) ≡ 0 + count_by p xs = sum_by-cons (λ (z : X). cond (p z) 1 0) x xs ∙ ap (λ (b : Bool). cond b 1 0 + count_by p xs) h in omega arith
 
-count_by-cons-le : {X : Type 0} (p : X → Bool) (x : X) (xs : List X) → count_by p xs ≤ count_by p (x ∷ xs)
-count_by-cons-le p x xs = ⊎_elim
-    (λ h. let e = count_by-pass p x xs h in omega arith)
-    (λ h. let e = count_by-fail p x xs h in omega arith)
-    (bool_cases (p x))
-
 -- a front has fewer, where one that passes behind it counts
 pub count_by-passes : {X : Type 0} (p : X → Bool) (xs : List X) (i : ℕ) (d : X) → i < length xs → p (get_or xs i d) ≡ true → count_by p (take i xs) < count_by p xs
 count_by-passes p [] i d l h = absurd (omega arith)

@@ -53,9 +53,6 @@ lacks-away (away.NoBuffers w) h = lacks-append 10 (codes "no_buffers ") (word_te
 
 -- ---- a fate, a flag, a word and a reason by their texts
 
-unless : {A : Type 0} {a b : ℕ} → a ≢ b → a ≡ b → A
-unless ne e = absurd (ne e)
-
 first_byte : (i : ℕ) (xs ys : List ℕ) → xs ≡ ys → get_or xs i 0 ≡ get_or ys i 0
 first_byte i xs ys e = ap (λ (z : List ℕ). get_or z i 0) e
 
@@ -250,19 +247,6 @@ order-once text xs ys us vs small h g =
     let c = after-second text _ (flat_map (line_text away_text) us) (length us) ys vs small g (few-away text xs us small h) b.1 refl in
     let d = after-away text (flat_map (line_text away_text) us) [] us vs ys g c.1 (sym (append-nil (flat_map (line_text away_text) us))) c.0 h.away_fit in
     (b.0, d.0)
-
--- a text that was read to its end is that of its lines
-pub order-read : (text r1 r2 r3 r4 : List ℕ) (m n : ℕ) (xs : List (Line Fate)) (us : List (Line Away)) → text ≡ codes "accepted " ++ (decimal m ++ (10 ∷ r1)) → r1 ≡ flat_map (line_text fate_text) xs ++ r2 → length xs ≡ m → All HasNumbers xs
-    → r2 ≡ codes "away " ++ (decimal n ++ (10 ∷ r3)) → r3 ≡ flat_map (line_text away_text) us ++ r4 → length us ≡ n → All IsAwayLine us → r4 ≡ [] → IsOrderText text xs us
-order-read text r1 r2 r3 r4 m n xs us p1 p2 lx fx p3 p4 lu fu p5 = record {
-  accepted_fit = fx;
-  away_fit = fu;
-  reads =
-      let e3 : r3 ≡ flat_map (line_text away_text) us = p4 ∙ (ap (λ (z : List ℕ). flat_map (line_text away_text) us ++ z) p5 ∙ append-nil (flat_map (line_text away_text) us)) in
-      let e2 : r2 ≡ codes "away " ++ (decimal (length us) ++ (10 ∷ flat_map (line_text away_text) us)) = p3 ∙ (λ i. codes "away " ++ (decimal (sym lu i) ++ (10 ∷ e3 i))) in
-      let e1 : r1 ≡ lines_and_away xs us = p2 ∙ ap (λ (z : List ℕ). flat_map (line_text fate_text) xs ++ z) e2 in
-      order-parts xs us ∙ sym (p1 ∙ (λ i. codes "accepted " ++ (decimal (sym lx i) ++ (10 ∷ e1 i))));
-}
 
 -- one more line is read
 pub read-more : {X : Type 0} (text_of : X → List ℕ) (Fits : X → Type 0) (text rest behind : List ℕ) (xs new : List X) (x : X) (n : ℕ) → text ≡ flat_map text_of xs ++ rest → rest ≡ text_of x ++ behind → new ≡ xs ++ (x ∷ [])

@@ -34,15 +34,6 @@ rest-flat_map {A = A} f xs i d text front rest lt a b =
     ∙ append_assoc (flat_map f (take i xs)) (f (get_or xs i d)) (flat_map f (drop (i + 1) xs)) in
     append_cancel_left (flat_map f (take i xs)) rest _ (append_cancel_left front _ _ (sym a ∙ b) ∙ split)
 
--- one more element
-pub more-flat_map : {X A : Type 0} (f : X → List A) (xs : List X) (i : ℕ) (d : X) (text front rest others : List A) → i < length xs → text ≡ front ++ (flat_map f (take i xs) ++ rest) → rest ≡ f (get_or xs i d) ++ others
-    → text ≡ front ++ (flat_map f (take (i + 1) xs) ++ others)
-more-flat_map {A = A} f xs i d text front rest others lt a b =
-    let grown : flat_map f (take (i + 1) xs) ≡ flat_map f (take i xs) ++ f (get_or xs i d) =
-    ap (flat_map f) (take_more xs i d lt) ∙ flat_map-append f (take i xs) (get_or xs i d ∷ [])
-    ∙ ap (λ (z : List A). flat_map f (take i xs) ++ z) (flat_map-cons f (get_or xs i d) [] ∙ append-nil (f (get_or xs i d))) in
-    a ∙ ap (λ (z : List A). front ++ z) (ap (λ (z : List A). flat_map f (take i xs) ++ z) b ∙ sym (append_assoc (flat_map f (take i xs)) (f (get_or xs i d)) others) ∙ ap (λ (z : List A). z ++ others) (sym grown))
-
 -- all elements, and nothing behind them
 pub all-flat_map : {X A : Type 0} (f : X → List A) (xs : List X) (n : ℕ) (text front : List A) → length xs ≤ n → n ≤ length xs → text ≡ front ++ (flat_map f (take n xs) ++ []) → text ≡ front ++ flat_map f xs
 all-flat_map {A = A} f xs n text front a b e =

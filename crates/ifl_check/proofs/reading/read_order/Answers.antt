@@ -1,14 +1,11 @@
-use Rattle.std.proofs.Common.{◌≡◌, ◌∙◌, ◌==◌, ℕ, [], length, sym, ap, arith, false}
+use Rattle.std.proofs.Common.{◌∙◌, [], length, sym, ap}
 use Rattle.std.specs.List.{flat_map}
 use Rattle.std.proofs.lemmas.List.{append-nil}
-use Rattle.std.proofs.lemmas.Bool.Decides.{nat_tests}
 use Rattle.ifl_check.specs.Text.{away_text, line_text}
 use Rattle.ifl_check.proofs.Absent.{none-at, some-at}
+use Rattle.ifl_check.proofs.Fronts.{not_empty}
 use Rattle.ifl_check.proofs.OneReading.{order-parts, few-accepted, few-away, after-count, after-accepted, after-second, after-away, lines_and_away}
 use Rattle.ifl_check.proofs.reading.read_order.Goals as goal
-
-not_empty : (n : ℕ) → (n == 0) ≡ false → n ≡ 0 → ⊥
-not_empty n e = grind (arith, nat_tests)
 
 pub returns-in_default-clause-none : goal.returns-in_default-clause-none
 returns-in_default-clause-none c = λ xs us h. c.in_default.ensures.none (length xs) (lines_and_away xs us) (few-accepted c.args.text.now xs us c.in_default.ensures.small h) (sym h.reads ∙ order-parts xs us)

@@ -1,12 +1,12 @@
-use Rattle.std.proofs.Common.{◌≡◌, ◌∙◌, ◌++◌, ◌==◌, ℕ, List, true, false, sym, ap, length, take, arith}
+use Rattle.std.proofs.Common.{◌∙◌, ◌++◌, ℕ, List, sym, ap, length, take, arith}
 use Rattle.std.specs.List.{flat_map}
-use Rattle.std.proofs.lemmas.Bool.Decides.{nat_tests}
 use Rattle.ifl_base.specs.declared.fate.Fate.{Fate}
 use Rattle.ifl_base.specs.declared.fate.Fate.TheVariants as fate
 use Rattle.ifl_pcap.specs.File.{record_of, written_header}
 use Rattle.ifl_check.specs.declared.line.Line.{Line}
 use Rattle.ifl_check.specs.Files.{each_frames}
 use Rattle.ifl_check.specs.OnWire.{on_wire, wire_frames}
+use Rattle.ifl_check.proofs.Fronts.{empty, not_empty}
 use Rattle.ifl_check.proofs.Records.{rest-flat_map, all-flat_map, rest-all, nil-length, flat_map-flat_map}
 use Rattle.ifl_check.proofs.wire.is_wire.Goals as goal
 
@@ -20,12 +20,6 @@ returns-in_default-behind_line-clause-no c =
     λ _ e. c.in_default-behind_line.ensures.none _
     (rest-flat_map (λ x. flat_map record_of (on_wire files x)) lines c.loop-line.line-index d c.args.wire.now written_header c.loop-line.rest.now c.loop-line-test.true c.loop-line.invariant
     (e ∙ ap (λ (z : List ℕ). written_header ++ z) (flat_map-flat_map record_of (on_wire files) lines)))
-
-empty : (n : ℕ) → (n == 0) ≡ true → n ≡ 0
-empty n e = grind (arith, nat_tests)
-
-not_empty : (n : ℕ) → (n == 0) ≡ false → n ≡ 0 → ⊥
-not_empty n e = grind (arith, nat_tests)
 
 pub returns-clause-yes : goal.returns-clause-yes
 returns-clause-yes c =
