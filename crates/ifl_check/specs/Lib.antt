@@ -1,0 +1,11 @@
+pub mod Text
+pub mod Files
+pub mod EachOnce
+pub mod InOrder
+pub mod Lengths
+pub mod Allowed
+pub mod FullRing
+pub mod OnWire
+pub mod FirstFailing
+pub mod Places
+pub mod Parts
