@@ -15,6 +15,7 @@ pub const HEADER_LEN: usize = 24;
 /// The bytes of a record before its frame.
 pub const HEAD_LEN: usize = 16;
 
+/// How many accepted frames went to the wire.
 pub fn wires(order: &[OrderLine]) -> u64
     ensures { result ≡ count_by (λ l. is_wire l.fate) order.now }
 {
@@ -24,6 +25,7 @@ pub fn wires(order: &[OrderLine]) -> u64
         .count() as u64
 }
 
+/// How many accepted frames had too many segments for the adapter.
 pub fn too_longs(order: &[OrderLine]) -> u64
     ensures { result ≡ count_by (λ l. is_too_long l.fate) order.now }
 {
@@ -33,6 +35,7 @@ pub fn too_longs(order: &[OrderLine]) -> u64
         .count() as u64
 }
 
+/// How many accepted frames a reset gave back.
 pub fn resets(order: &[OrderLine]) -> u64
     ensures { result ≡ count_by (λ l. is_reset l.fate) order.now }
 {
@@ -42,6 +45,7 @@ pub fn resets(order: &[OrderLine]) -> u64
         .count() as u64
 }
 
+/// How many accepted frames the stop gave back, or kept from being posted.
 pub fn flushes(order: &[OrderLine]) -> u64
     ensures { result ≡ count_by (λ l. is_flush l.fate) order.now }
 {
@@ -51,12 +55,14 @@ pub fn flushes(order: &[OrderLine]) -> u64
         .count() as u64
 }
 
+/// How many frames were turned away as runts.
 pub fn runts(away: &[AwayLine]) -> u64
     ensures { result ≡ count_by (λ l. is_runt l.away) away.now }
 {
     away.iter().filter(|l| matches!(l.away, Away::Runt)).count() as u64
 }
 
+/// How many frames were turned away as oversize.
 pub fn oversizes(away: &[AwayLine]) -> u64
     ensures { result ≡ count_by (λ l. is_oversize l.away) away.now }
 {
@@ -65,6 +71,7 @@ pub fn oversizes(away: &[AwayLine]) -> u64
         .count() as u64
 }
 
+/// How many frames were turned away for want of room in the ring.
 pub fn no_buffers(away: &[AwayLine]) -> u64
     ensures { result ≡ count_by (λ l. is_no_buffers l.away) away.now }
 {
@@ -73,6 +80,7 @@ pub fn no_buffers(away: &[AwayLine]) -> u64
         .count() as u64
 }
 
+/// How many frames were turned away for want of clusters.
 pub fn no_clusters(away: &[AwayLine]) -> u64
     ensures { result ≡ count_by (λ l. is_no_clusters l.away) away.now }
 {
